@@ -1,0 +1,106 @@
+ghost use Rattle.std.specs.Prelude.{◌≡◌};
+ghost use Rattle.std.specs.List.{list_all};
+ghost use Rattle.text_num.specs.Names.{is_name, is_visible};
+
+use std::alloc::{AllocError, Global};
+use std::marker::Model;
+
+/// A name of 1 to 255 bytes with values 33 to 126, as of an image, a procedure or a file.
+#[derive(Drop)]
+pub struct Name {
+    text: Vec<u8>,
+}
+
+impl Model for Name {
+    ghost use Rattle.std.specs.Prelude.{◌≡◌, ℕ, List, true};
+    ghost use Rattle.text_num.specs.Names.{is_name};
+
+    ghost Value = { List ℕ };
+
+    ghost view = { λ n. n.text.items };
+
+    ghost invariant = { λ n. is_name n.text.items ≡ true };
+}
+
+impl Name {
+    ghost use Rattle.std.specs.Prelude.{◌≡◌, MatchOption, IfOk, true, false};
+    ghost use Rattle.text_num.specs.Names.{is_name};
+
+    /// The name of these bytes; nothing exactly where they are no name.
+    pub fn of_bytes(alloc: Global, bytes: &[u8]) -> Result<Option<Name>, AllocError>
+        ensures { IfOk result (λ found. MatchOption found (is_name bytes.now ≡ false) (λ name. (is_name bytes.now ≡ true) × (name ≡ bytes.now))) }
+    {
+        if !is_name(bytes) {
+            return Ok(None);
+        }
+        let text = Vec::from_slice(alloc, bytes)?;
+        Ok(Some(Name { text }))
+    }
+
+    /// The bytes of the name.
+    pub fn bytes(&self) -> &[u8]
+        ensures bytes { result.now ≡ self.now }
+        ensures name { is_name result.now ≡ true }
+    {
+        self.text.as_slice()
+    }
+
+    /// An equal name.
+    pub fn copy(&self, alloc: Global) -> Result<Name, AllocError>
+        ensures { IfOk result (λ name. name ≡ self.now) }
+    {
+        let text = Vec::from_slice(alloc, &self.text)?;
+        Ok(Name { text })
+    }
+}
+
+fn is_name(bytes: &[u8]) -> bool
+    ensures { result ≡ is_name bytes.now }
+{
+    1 <= bytes.len() && bytes.len() <= 255 && are_visible(bytes)
+}
+
+fn are_visible(bytes: &[u8]) -> bool
+    ensures { result ≡ list_all is_visible bytes.now }
+{
+    bytes.iter().all(|byte| 33 <= *byte && *byte <= 126)
+}
+
+#[cfg(test)]
+mod tests {
+    use super::*;
+    use std::test::Fail;
+
+    fn is_some_name(bytes: &[u8], alloc: Global) -> Result<bool, AllocError> {
+        let Some(name) = Name::of_bytes(alloc, bytes)? else {
+            return Ok(false);
+        };
+        let copy = name.copy(alloc)?;
+        Ok(copy.bytes() == bytes)
+    }
+
+    #[test]
+    fn takes_visible_bytes(rt: HostRuntime) -> Result<(), Fail> {
+        let longest = [b'x'; 255];
+        let too_long = [b'x'; 256];
+        for bytes in [
+            b"A".as_slice(),
+            b"/bin/app".as_slice(),
+            b"[vdso]".as_slice(),
+            b"!~".as_slice(),
+            longest.as_slice(),
+        ] {
+            assert!(rt; is_some_name(bytes, rt.alloc())?);
+        }
+        for bytes in [
+            b"".as_slice(),
+            b"a b".as_slice(),
+            b"\x7f".as_slice(),
+            b"\n".as_slice(),
+            too_long.as_slice(),
+        ] {
+            assert!(rt; !is_some_name(bytes, rt.alloc())?);
+        }
+        Ok(())
+    }
+}

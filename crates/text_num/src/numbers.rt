@@ -1,0 +1,178 @@
+ghost use Rattle.std.specs.Prelude.{◌≡◌, ℕ, ◌+◌, ◌*◌, ◌^◌, ◌<◌, ◌≤◌, ◌++◌, nat_lt, ◌&&◌, if◌then◌else◌, is_ok, false};
+ghost use Rattle.std.specs.List.{list_all};
+ghost use Rattle.std.specs.Fmt.{decimal, digits};
+ghost use Rattle.text_num.specs.Numbers.{digit_value, is_digit, has_leading_zero, is_canonical, value_after, value_of, number, number_after, HasSpelling, hundredths};
+
+use itoa::Buffer;
+use std::alloc::AllocError;
+
+/// Of each number below 2^64 one text is the canonical decimal, and one the canonical hexadecimal.
+pub fn one_spelling()
+    ensures decimal { HasSpelling 10 }
+    ensures hexadecimal { HasSpelling 16 }
+{}
+
+/// The number that a canonical decimal below 2^64 spells; nothing for every other text.
+pub fn read_dec(text: &[u8]) -> Option<u64>
+    ensures { result ≡ number 10 text.now }
+{
+    read_number(10, text)
+}
+
+/// The number that a canonical hexadecimal below 2^64 spells; nothing for every other text.
+pub fn read_hex(text: &[u8]) -> Option<u64>
+    ensures { result ≡ number 16 text.now }
+{
+    read_number(16, text)
+}
+
+/// Whether the text is a canonical decimal of any length.
+pub fn is_dec(text: &[u8]) -> bool
+    ensures { result ≡ is_canonical 10 text.now }
+{
+    is_spelling(10, text)
+}
+
+/// Whether the text is a canonical hexadecimal of any length.
+pub fn is_hex(text: &[u8]) -> bool
+    ensures { result ≡ is_canonical 16 text.now }
+{
+    is_spelling(16, text)
+}
+
+/// Appends the canonical decimal. Where no memory is found `out` is as before.
+pub fn put_dec(out: &mut Vec<u8>, n: u128) -> Result<(), AllocError>
+    ensures { out.new.items ≡ (if is_ok result then out.old.items ++ decimal n else out.old.items) }
+{
+    let mut buffer = Buffer::new();
+    out.extend_from_slice(buffer.format(n).as_bytes())
+}
+
+/// Appends the canonical hexadecimal. Where no memory is found `out` is as before.
+pub fn put_hex(out: &mut Vec<u8>, n: u64) -> Result<(), AllocError>
+    ensures { out.new.items ≡ (if is_ok result then out.old.items ++ digits 16 false n else out.old.items) }
+{
+    let text = format!(in *out.allocator(); "{n:x}")?;
+    out.extend_from_slice(text.as_bytes())
+}
+
+/// Appends hundredths as whole units with two decimals: 1234 gives `12.34`. Where no memory is found `out` is as before.
+pub fn put_hundredths(out: &mut Vec<u8>, n: u32) -> Result<(), AllocError>
+    ensures { out.new.items ≡ (if is_ok result then out.old.items ++ hundredths n else out.old.items) }
+{
+    let units = n / 100;
+    let tenths = n / 10 % 10;
+    let last = n % 10;
+    let text = format!(in *out.allocator(); "{units}.{tenths}{last}")?;
+    out.extend_from_slice(text.as_bytes())
+}
+
+// What a digit is worth, or 16.
+fn worth(c: u8) -> u64
+    ensures { result ≡ digit_value c }
+{
+    if b'0' <= c && c <= b'9' {
+        u64::from(c - b'0')
+    } else if b'a' <= c && c <= b'f' {
+        u64::from(c - b'a') + 10
+    } else {
+        16
+    }
+}
+
+fn has_leading_zero(text: &[u8]) -> bool
+    ensures { result ≡ has_leading_zero text.now }
+{
+    2 <= text.len() && text[0] == b'0'
+}
+
+fn are_digits(base: u64, text: &[u8]) -> bool
+    ensures { result ≡ list_all (is_digit base) text.now }
+{
+    text.iter().all(|c| worth(*c) < base)
+}
+
+fn is_spelling(base: u64, text: &[u8]) -> bool
+    ensures { result ≡ is_canonical base text.now }
+{
+    1 <= text.len() && !has_leading_zero(text) && are_digits(base, text)
+}
+
+fn read_number(base: u64, text: &[u8]) -> Option<u64>
+    requires low { 2 ≤ base }
+    requires high { base ≤ 16 }
+    ensures { result ≡ number base text.now }
+{
+    if text.is_empty() {
+        return None;
+    }
+    if has_leading_zero(text) {
+        return None;
+    }
+    read_digits(base, text)
+}
+
+// The number that digits write, where each byte is one and the number is below 2^64.
+fn read_digits(base: u64, text: &[u8]) -> Option<u64>
+    requires low { 2 ≤ base }
+    requires high { base ≤ 16 }
+    ensures { result ≡ number_after base 0 text.now }
+{
+    let mut n: u64 = 0;
+    for c in text {
+        let digit = worth(*c);
+        if digit >= base {
+            return None;
+        }
+        n = n.checked_mul(base)?.checked_add(digit)?;
+    }
+    Some(n)
+}
+
+#[cfg(test)]
+mod tests {
+    use super::*;
+    use std::test::Fail;
+
+    #[test]
+    fn reads_canonical_numbers(rt: HostRuntime) {
+        let decimals: [(&[u8], Option<u64>, bool); 8] = [
+            (b"0", Some(0), true),
+            (b"4096", Some(4096), true),
+            (b"18446744073709551615", Some(u64::MAX), true),
+            (b"18446744073709551616", None, true),
+            (b"01", None, false),
+            (b"", None, false),
+            (b"1c", None, false),
+            (b"-1", None, false),
+        ];
+        for (text, value, canonical) in decimals {
+            assert!(rt; read_dec(text) == value);
+            assert!(rt; is_dec(text) == canonical);
+        }
+        let hexadecimals: [(&[u8], Option<u64>, bool); 6] = [
+            (b"0", Some(0), true),
+            (b"10ffc", Some(69628), true),
+            (b"fffffffffffffff8", Some(18446744073709551608), true),
+            (b"10000000000000000", None, true),
+            (b"100C", None, false),
+            (b"00", None, false),
+        ];
+        for (text, value, canonical) in hexadecimals {
+            assert!(rt; read_hex(text) == value);
+            assert!(rt; is_hex(text) == canonical);
+        }
+    }
+
+    #[test]
+    fn writes_numbers(rt: HostRuntime) -> Result<(), Fail> {
+        let mut out = Vec::new(rt.alloc());
+        put_dec(&mut out, 281474976710656)?;
+        put_hex(&mut out, 0xffc)?;
+        put_hundredths(&mut out, 1234)?;
+        put_hundredths(&mut out, 5)?;
+        assert!(rt; out.as_slice() == b"281474976710656ffc12.340.05".as_slice());
+        one_spelling();
+        Ok(())
+    }
+}
