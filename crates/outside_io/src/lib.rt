@@ -7,11 +7,10 @@
 mod gates;
 mod memory;
 mod streams;
-mod traits;
-mod writing;
-
 #[cfg(test)]
 mod tests;
+mod traits;
+mod writing;
 
 pub use gates::{Gate, OpenGate};
 pub use memory::{ListedFaults, MemSink, MemSource};

@@ -65,6 +65,7 @@ impl Source for MemSource {
     ghost use Rattle.outside_io.specs.Memory.{rest_of, source_fails, source_calls, source_faults, next_call};
 
     ghost left = { λ s. Some (rest_of s) };
+
     ghost faults = { source_faults };
 
     fn read(&mut self, buf: &mut [u8]) -> Result<usize, ReadFailed>
@@ -140,6 +141,7 @@ impl Sink for MemSink {
     ghost use Rattle.outside_io.specs.Memory.{bytes_of, sink_fails, sink_calls, sink_faults, next_call, MustGrow};
 
     ghost written = { λ s. Some (bytes_of s) };
+
     ghost faults = { sink_faults };
 
     fn write(&mut self, buf: &[u8]) -> Result<usize, WriteFailed>

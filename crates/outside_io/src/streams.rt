@@ -27,6 +27,7 @@ impl<R: Read> Source for StdSource<R> {
     ghost use Rattle.outside_io.specs.Streams.{reader_of, read_faults};
 
     ghost left = { λ s. R.remaining (reader_of s) };
+
     ghost faults = { read_faults };
 
     fn read(&mut self, buf: &mut [u8]) -> Result<usize, ReadFailed> {
@@ -63,6 +64,7 @@ impl<W: Write> Sink for StdSink<W> {
     ghost use Rattle.outside_io.specs.Streams.{writer_of, write_faults};
 
     ghost written = { λ s. W.contents (writer_of s) };
+
     ghost faults = { write_faults };
 
     /// A writer that took nothing failed, too.

@@ -21,6 +21,7 @@ pub struct WriteFailed;
 /// tells them, and `faults` the reads that failed, a count that stops at the greatest `u64`.
 pub trait Source {
     ghost left: { Self → Option (List ℕ) };
+
     ghost faults: { Self → ℕ };
 
     /// Reads into the front of `buf`, which is not empty, and answers how many bytes it read,
@@ -36,6 +37,7 @@ pub trait Source {
 /// them, and `faults` the writes that failed, a count that stops at the greatest `u64`.
 pub trait Sink {
     ghost written: { Self → Option (List ℕ) };
+
     ghost faults: { Self → ℕ };
 
     /// Writes a front of `buf`, which is not empty, and answers its length, at least 1.
