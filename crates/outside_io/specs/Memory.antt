@@ -1,5 +1,5 @@
 -- What contracts see of the source and the sink in memory.
-use Rattle.std.specs.Prelude.{ℕ, ◌+◌, ◌-◌, ◌^◌, ◌<◌, min, List, drop, vec_items, vec_len, vec_capacity}
+use Rattle.std.specs.Prelude.{ℕ, ◌+◌, ◌-◌, ◌^◌, ◌<◌, min, List, drop, vec_len, vec_capacity}
 use Rattle.outside_io.specs.declared.memory.MemSource.{MemSource}
 use Rattle.outside_io.specs.declared.memory.MemSink.{MemSink}
 

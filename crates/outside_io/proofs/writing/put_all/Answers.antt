@@ -1,5 +1,5 @@
 -- What a write took moves from the rest to what was written.
-use Rattle.std.proofs.Common.{rules, ◌≡◌, ℕ, ◌++◌, take, ◌∙◌}
+use Rattle.std.proofs.Common.{◌++◌, take, ◌∙◌}
 use Rattle.std.proofs.KnownBytes.{Appends-trans}
 use Rattle.outside_io.proofs.Fronts.{moves_front}
 use Rattle.outside_io.proofs.writing.put_all.Goals as goal
