@@ -1,0 +1,25 @@
+ghost use Rattle.std.specs.Prelude.{◌≡◌, ◌%◌};
+
+use crate::events::Event;
+
+/// What samples are counted by: the process, the program counter and the event. Alpha instructions are four bytes
+/// long, so `pc` is a multiple of 4.
+#[derive(Clone, Copy, Debug, PartialEq, Eq, PartialOrd, Ord)]
+pub struct Key {
+    /// The process identifier.
+    pub pid: u32,
+    /// The program counter, a multiple of 4.
+    pub pc: u64,
+    /// What was counted.
+    pub event: Event,
+    pub ghost aligned: { pc % 4 ≡ 0 },
+}
+
+/// A sample with its mark: the number of records that stand before it in the trace.
+#[derive(Clone, Copy, Debug, PartialEq, Eq)]
+pub struct Marked {
+    /// What the sample counts for.
+    pub key: Key,
+    /// How many records of the trace stand before the sample.
+    pub mark: u64,
+}
