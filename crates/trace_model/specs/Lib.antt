@@ -1,0 +1,5 @@
+pub mod Attribution
+pub mod Counting
+pub mod Grammar
+pub mod Recording
+pub mod Said

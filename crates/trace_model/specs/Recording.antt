@@ -1,0 +1,88 @@
+-- A recorded trace as a value, and what its lines say.
+use Rattle.std.specs.Prelude.{◌≡◌, ℕ, ◌&&◌, Bool, true, false, if◌then◌else◌, List, [], ◌∷◌, ◌++◌, map, slice_get, unwrap_or, ◌⊎◌}
+use Rattle.std.specs.List.{list_any, list_all, flat_map, fold}
+use Rattle.std.specs.Option.{is_none}
+use Rattle.std.specs.Str.{bytes_eq}
+use Rattle.trace_model.specs.declared.notices.Record.{Record}
+use Rattle.trace_model.specs.declared.notices.Record.TheVariants.{Scan, Load, Unload, Exec, Exit, Kernel, Drain, Merge, Epoch}
+use Rattle.trace_model.specs.declared.notices.Line.{Line}
+use Rattle.trace_model.specs.declared.notices.Line.TheVariants.{Sample, Rec}
+use Rattle.trace_model.specs.declared.notices.Step.{Step}
+use Rattle.trace_model.specs.declared.notices.Step.TheVariants.{Lane, Poll, Advance}
+use Rattle.trace_model.specs.Said.{Said, ShortHeader, LongHeader, Sampled, Scanned, Loaded, Unloaded, Executed, Exited, KernelMapped, Drained, Merged, EpochBegun, Ended, Turned, Polled, Advanced, images_named, tested, is_within, is_aligned}
+use Rattle.trace_model.specs.Grammar.{first_that_applies, tests_of_values, Says}
+
+-- a trace: its sizes, the names of its images, its body and its schedule
+pub record Recording : Type 0 where
+  pub cpus : ℕ
+  pub buckets : ℕ
+  pub buffer : ℕ
+  pub images : List (List ℕ)
+  pub lines : List Line
+  pub schedule : List Step
+
+abbrev pub recording : ℕ → ℕ → ℕ → List (List ℕ) → List Line → List Step → Recording
+recording cpus buckets buffer images lines schedule = record { cpus = cpus; buckets = buckets; buffer = buffer; images = images; lines = lines; schedule = schedule }
+
+-- the image of this index, or no name where there is none
+abbrev pub name_at : List (List ℕ) → ℕ → List ℕ
+name_at images index = unwrap_or (slice_get images index) []
+
+-- what a record says, its image by name
+abbrev pub record_said : List (List ℕ) → Record → Said ℕ
+record_said images (Scan pid base size image) = Scanned pid base size (name_at images image)
+record_said images (Load pid base size image) = Loaded pid base size (name_at images image)
+record_said images (Unload pid base size) = Unloaded pid base size
+record_said images (Exec pid base size image) = Executed pid base size (name_at images image)
+record_said images (Exit pid) = Exited pid
+record_said images (Kernel base size image) = KernelMapped base size (name_at images image)
+record_said images Drain = Drained
+record_said images Merge = Merged
+record_said images Epoch = EpochBegun
+
+-- a record has the ranges of the format, and its base and length, where it has them, are multiples of 4
+abbrev pub keeps_ranges : Record → Bool
+keeps_ranges entry = list_all is_within (tested (record_said [] entry)) && list_all is_aligned (tested (record_said [] entry))
+
+-- what a line of the body says
+abbrev pub line_said : List (List ℕ) → Line → Said ℕ
+line_said images (Sample cpu key) = Sampled cpu key.pid key.pc key.event
+line_said images (Rec entry) = record_said images entry
+
+-- what a step says
+abbrev pub step_said : Step → Said ℕ
+step_said (Lane cpu) = Turned cpu
+step_said (Poll cpu cell) = Polled cpu cell
+step_said Advance = Advanced
+
+-- all that stands behind the header
+abbrev pub said_behind_header : Recording → List (Said ℕ)
+said_behind_header r = map (line_said r.images) r.lines ++ Ended ∷ map step_said r.schedule
+
+-- what the trace says, line by line, with its sizes in the header
+abbrev pub said_in : Recording → List (Said ℕ)
+said_in r = LongHeader r.cpus r.buckets r.buffer ∷ said_behind_header r
+
+-- nothing is wrong with the values of these lines, after what the lines before them said
+abbrev pub are_good : List (Said ℕ) → List (Said ℕ) → Bool
+are_good before [] = true
+are_good before (said ∷ more) = is_none (first_that_applies (tests_of_values before said)) && are_good (before ++ said ∷ []) more
+
+-- names in order of first use
+abbrev pub with_name : List (List ℕ) → List ℕ → List (List ℕ)
+with_name names name = if list_any (bytes_eq name) names then names else names ++ name ∷ []
+
+abbrev pub images_in_order : List (Said ℕ) → List (List ℕ)
+images_in_order said = fold with_name [] (flat_map images_named said)
+
+-- these lines are this trace: with its sizes in the header, or by a short header where the sizes are the usual ones
+pub data IsSaidBy (r : Recording) (said : List (Said ℕ)) : Type 0 where
+  WithSizes : said ≡ said_in r → IsSaidBy r said
+  Short : r.buckets ≡ 4096 → r.buffer ≡ 8192 → said ≡ ShortHeader r.cpus ∷ said_behind_header r → IsSaidBy r said
+
+-- the bytes read as this trace
+pub record Reads (bytes : List ℕ) (r : Recording) : Type 0 where
+  pub said : List (Said ℕ)
+  pub says : Says bytes said
+  pub lines : IsSaidBy r said
+  pub images : r.images ≡ images_in_order said
