@@ -10,7 +10,7 @@ use Rattle.trace_model.specs.declared.notices.Record.TheVariants.{Scan, Load, Un
 use Rattle.trace_model.specs.declared.notices.Line.{Line}
 use Rattle.trace_model.specs.declared.notices.Line.TheVariants.{Sample, Rec}
 use Rattle.trace_model.specs.Said.{Said, ShortHeader, LongHeader, Sampled, Loaded, Ended, line_text}
-use Rattle.trace_model.specs.Grammar.{verdict, said_by, text_of}
+use Rattle.trace_model.specs.Grammar.{verdict, said_by}
 use Rattle.trace_model.specs.Recording.{Recording, recording, images_in_order, are_good, said_in}
 use Rattle.trace_model.specs.Counting.{Known, Unknown, Row, spots_in, rows_text, Spot}
 

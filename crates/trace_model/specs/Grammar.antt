@@ -8,9 +8,10 @@ use Rattle.std.specs.List.{list_all, list_any, count_by, slice_split, AllByRecur
 use Rattle.std.specs.Option.{option_map, is_some}
 use Rattle.std.specs.Str.{bytes_eq}
 use Rattle.sample_key.specs.Events.{event_named}
+use Rattle.text_num.specs.Lines.{HasNoLineFeed, text_of_lines}
 use Rattle.trace_model.specs.declared.reasons.TraceWhy.{TraceWhy}
 use Rattle.trace_model.specs.declared.reasons.TraceWhy.TheVariants.{NotHeader, BadWord, AfterEnd, BadNumber, OutOfRange, Unaligned, BadName, NoSuchCpu, ScanTooLate, TooManySamples, TooManyRecords, NoEnd}
-use Rattle.trace_model.specs.Said.{Said, ShortHeader, LongHeader, Sampled, Scanned, Loaded, Unloaded, Executed, Exited, KernelMapped, Drained, Merged, EpochBegun, Ended, Turned, Polled, Advanced, values_of, tested, is_spelled, is_within, is_aligned, is_titled, is_sample, is_scan, is_end, is_step, is_record, ends_part, may_precede_scan, cpu_named}
+use Rattle.trace_model.specs.Said.{Said, ShortHeader, LongHeader, Sampled, Scanned, Loaded, Unloaded, Executed, Exited, KernelMapped, Drained, Merged, EpochBegun, Ended, Turned, Polled, Advanced, values_of, every, tested, is_spelled, is_within, is_aligned, is_titled, is_sample, is_scan, is_end, is_step, is_record, ends_part, may_precede_scan, cpu_named}
 
 -- where a line stands: all that is asked of the lines before it is the list of what they said
 pub data Stage : Type 0 where
@@ -89,30 +90,39 @@ is_sample_too_many before said = is_sample said && nat_le 2000000 (count_by is_s
 -- 65,536 records, of which 1,024 end a part, and 4,000,000 steps
 abbrev pub is_record_too_many : List (Said ℕ) → Said ℕ → Bool
 is_record_too_many before said =
-    is_record said && nat_le 65536 (count_by is_record before)
-    || ends_part said && nat_le 1024 (count_by ends_part before)
-    || is_step said && nat_le 4000000 (count_by is_step before)
+    (is_record said && nat_le 65536 (count_by is_record before))
+    || ((ends_part said && nat_le 1024 (count_by ends_part before))
+    || (is_step said && nat_le 4000000 (count_by is_step before)))
 
 -- the first of these that applies
 abbrev pub first_that_applies : List (TraceWhy × Bool) → Option TraceWhy
 first_that_applies [] = None
 first_that_applies (test ∷ more) = if test.1 then Some test.0 else first_that_applies more
 
--- what may be wrong with the values of a line, after what the lines before it said
-abbrev pub tests_of_values : List (Said ℕ) → Said ℕ → List (TraceWhy × Bool)
-tests_of_values before said =
-    (OutOfRange, not (list_all is_within (tested said)))
-    ∷ (Unaligned, not (list_all is_aligned (tested said)))
-    ∷ (BadName, not (list_all is_titled (tested said)))
-    ∷ (NoSuchCpu, names_no_cpu before said)
+-- what may be wrong with the fields of a line, whatever stands before it
+abbrev pub field_tests : Said ℕ → List (TraceWhy × Bool)
+field_tests said =
+    (OutOfRange, not (every is_within (tested said)))
+    ∷ (Unaligned, not (every is_aligned (tested said)))
+    ∷ (BadName, not (every is_titled (tested said)))
+    ∷ []
+
+-- what may be wrong with a line after what the lines before it said
+abbrev pub context_tests : List (Said ℕ) → Said ℕ → List (TraceWhy × Bool)
+context_tests before said =
+    (NoSuchCpu, names_no_cpu before said)
     ∷ (ScanTooLate, scans_too_late before said)
     ∷ (TooManySamples, is_sample_too_many before said)
     ∷ (TooManyRecords, is_record_too_many before said)
     ∷ []
 
--- what may be wrong with a line whose words are in order
+-- what may be wrong with the values of a line
+abbrev pub value_tests : List (Said ℕ) → Said ℕ → List (TraceWhy × Bool)
+value_tests before said = field_tests said ++ context_tests before said
+
+-- what may be wrong with a line whose words are in order, in the order in which it is tested
 abbrev pub tests_of : List (Said ℕ) → Said (List ℕ) → List (TraceWhy × Bool)
-tests_of before raw = (BadNumber, not (list_all is_spelled (tested raw))) ∷ tests_of_values before (values_of raw)
+tests_of before raw = (BadNumber, not (every is_spelled (tested raw))) ∷ value_tests before (values_of raw)
 
 abbrev pub judged : Said ℕ → Option TraceWhy → Result (Said ℕ) TraceWhy
 judged said None = Ok said
@@ -139,24 +149,15 @@ abbrev pub said_by : List (Said ℕ) → List (List ℕ) → Option (List (Said 
 said_by before [] = Some before
 said_by before (line ∷ lines) = where_said (verdict before line) (λ said. said_by (before ++ said ∷ []) lines)
 
--- bytes without a line feed
-abbrev pub HasNoLineFeed : List ℕ → Type 0
-HasNoLineFeed bytes = AllByRecursion (λ byte. byte ≢ 10) bytes
-
 -- a line of at most 400 bytes, without its line feed
 abbrev pub IsLine : List ℕ → Type 0
 IsLine bytes = HasNoLineFeed bytes × (length bytes ≤ 400)
-
--- lines, each ended by a line feed
-abbrev pub text_of : List (List ℕ) → List ℕ
-text_of [] = []
-text_of (line ∷ lines) = line ++ 10 ∷ text_of lines
 
 -- the bytes are lines that say this, and the end is among them
 pub record Says (bytes : List ℕ) (said : List (Said ℕ)) : Type 0 where
   pub lines : List (List ℕ)
   pub are_lines : AllByRecursion IsLine lines
-  pub text : bytes ≡ text_of lines
+  pub text : bytes ≡ text_of_lines lines
   pub says : said_by [] lines ≡ Some said
   pub ended : list_any is_end said ≡ true
 
@@ -177,7 +178,7 @@ pub record FirstBad (bytes : List ℕ) (number : ℕ) (why : TraceWhy) : Type 0 
   pub rest : List ℕ
   pub said : List (Said ℕ)
   pub are_lines : AllByRecursion IsLine lines
-  pub text : bytes ≡ text_of lines ++ rest
+  pub text : bytes ≡ text_of_lines lines ++ rest
   pub says : said_by [] lines ≡ Some said
   pub number_is : number ≡ length lines + 1
   pub refused : Refuses said rest why

@@ -1,6 +1,6 @@
 -- A recorded trace as a value, and what its lines say.
 use Rattle.std.specs.Prelude.{◌≡◌, ℕ, ◌&&◌, Bool, true, false, if◌then◌else◌, List, [], ◌∷◌, ◌++◌, map, slice_get, unwrap_or, ◌⊎◌}
-use Rattle.std.specs.List.{list_any, list_all, flat_map, fold}
+use Rattle.std.specs.List.{list_any, flat_map, fold}
 use Rattle.std.specs.Option.{is_none}
 use Rattle.std.specs.Str.{bytes_eq}
 use Rattle.trace_model.specs.declared.notices.Record.{Record}
@@ -9,8 +9,8 @@ use Rattle.trace_model.specs.declared.notices.Line.{Line}
 use Rattle.trace_model.specs.declared.notices.Line.TheVariants.{Sample, Rec}
 use Rattle.trace_model.specs.declared.notices.Step.{Step}
 use Rattle.trace_model.specs.declared.notices.Step.TheVariants.{Lane, Poll, Advance}
-use Rattle.trace_model.specs.Said.{Said, ShortHeader, LongHeader, Sampled, Scanned, Loaded, Unloaded, Executed, Exited, KernelMapped, Drained, Merged, EpochBegun, Ended, Turned, Polled, Advanced, images_named, tested, is_within, is_aligned}
-use Rattle.trace_model.specs.Grammar.{first_that_applies, tests_of_values, Says}
+use Rattle.trace_model.specs.Said.{Said, ShortHeader, LongHeader, Sampled, Scanned, Loaded, Unloaded, Executed, Exited, KernelMapped, Drained, Merged, EpochBegun, Ended, Turned, Polled, Advanced, images_named, every, tested, is_within, is_aligned}
+use Rattle.trace_model.specs.Grammar.{first_that_applies, value_tests, Says}
 
 -- a trace: its sizes, the names of its images, its body and its schedule
 pub record Recording : Type 0 where
@@ -42,7 +42,7 @@ record_said images Epoch = EpochBegun
 
 -- a record has the ranges of the format, and its base and length, where it has them, are multiples of 4
 abbrev pub keeps_ranges : Record → Bool
-keeps_ranges entry = list_all is_within (tested (record_said [] entry)) && list_all is_aligned (tested (record_said [] entry))
+keeps_ranges entry = every is_within (tested (record_said [] entry)) && every is_aligned (tested (record_said [] entry))
 
 -- what a line of the body says
 abbrev pub line_said : List (List ℕ) → Line → Said ℕ
@@ -66,7 +66,7 @@ said_in r = LongHeader r.cpus r.buckets r.buffer ∷ said_behind_header r
 -- nothing is wrong with the values of these lines, after what the lines before them said
 abbrev pub are_good : List (Said ℕ) → List (Said ℕ) → Bool
 are_good before [] = true
-are_good before (said ∷ more) = is_none (first_that_applies (tests_of_values before said)) && are_good (before ++ said ∷ []) more
+are_good before (said ∷ more) = is_none (first_that_applies (value_tests before said)) && are_good (before ++ said ∷ []) more
 
 -- names in order of first use
 abbrev pub with_name : List (List ℕ) → List ℕ → List (List ℕ)

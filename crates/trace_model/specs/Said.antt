@@ -104,6 +104,12 @@ tested (Turned cpu) = Decimal 0 15 cpu ∷ []
 tested (Polled cpu cell) = Decimal 0 15 cpu ∷ Decimal 0 2 cell ∷ []
 tested Advanced = []
 
+-- each of these passes the test
+abbrev pub every : {A : Type 0} → (A → Bool) → List A → Bool
+every test [] = true
+every test (x ∷ []) = test x
+every test (x ∷ y ∷ more) = test x && every test (y ∷ more)
+
 -- a number field is spelled canonically
 abbrev pub is_spelled : Field (List ℕ) → Bool
 is_spelled (Decimal least most text) = is_canonical 10 text
