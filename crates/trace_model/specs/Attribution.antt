@@ -10,23 +10,31 @@ use Rattle.trace_model.specs.declared.notices.Place.{Place}
 abbrev pub covers : ℕ → ℕ → ℕ → Bool
 covers base size pc = nat_le base pc && nat_lt pc (base + size)
 
-abbrev pub place_in : ℕ → ℕ → ℕ → Place
-place_in base image pc = record { image = image; offset = pc - base }
+-- the image and offset of a covered address
+abbrev pub place_if_covered : ℕ → ℕ → ℕ → ℕ → Option Place
+place_if_covered base size image pc = if covers base size pc then Some (record { image = image; offset = pc - base }) else None
 
 -- what one record says of an address of a process
 pub data Verdict : Type 0 where
   GoesOn : Verdict
   Decides : Option Place → Verdict
 
-abbrev pub decided : Bool → Option Place → Verdict
-decided decides place = if decides then Decides place else GoesOn
+-- a mapping of the process decides where it covers the address
+abbrev pub by_mapping : Bool → Option Place → Verdict
+by_mapping true (Some place) = Decides (Some place)
+by_mapping true None = GoesOn
+by_mapping false place = GoesOn
+
+abbrev pub decides_where : Bool → Option Place → Verdict
+decides_where true place = Decides place
+decides_where false place = GoesOn
 
 abbrev pub says : Record → ℕ → ℕ → Verdict
-says (Scan process base size image) pid pc = decided (process == pid && covers base size pc) (Some (place_in base image pc))
-says (Load process base size image) pid pc = decided (process == pid && covers base size pc) (Some (place_in base image pc))
-says (Unload process base size) pid pc = decided (process == pid && covers base size pc) None
-says (Exec process base size image) pid pc = decided (process == pid) (if covers base size pc then Some (place_in base image pc) else None)
-says (Exit process) pid pc = decided (process == pid) None
+says (Scan process base size image) pid pc = by_mapping (process == pid) (place_if_covered base size image pc)
+says (Load process base size image) pid pc = by_mapping (process == pid) (place_if_covered base size image pc)
+says (Unload process base size) pid pc = decides_where (process == pid && covers base size pc) None
+says (Exec process base size image) pid pc = decides_where (process == pid) (place_if_covered base size image pc)
+says (Exit process) pid pc = decides_where (process == pid) None
 says (Kernel base size image) pid pc = GoesOn
 says Drain pid pc = GoesOn
 says Merge pid pc = GoesOn
@@ -41,15 +49,27 @@ abbrev pub own_place : List Record → ℕ → ℕ → Option Place
 own_place [] pid pc = None
 own_place (entry ∷ earlier) pid pc = decided_by (says entry pid pc) (own_place earlier pid pc)
 
--- the latest mapping of the kernel that covers the address
-abbrev pub kernel_place : List Record → ℕ → Option Place
-kernel_place [] pc = None
-kernel_place (Kernel base size image ∷ earlier) pc = if covers base size pc then Some (place_in base image pc) else kernel_place earlier pc
-kernel_place (entry ∷ earlier) pc = kernel_place earlier pc
+-- a mapping of the kernel that covers the address
+abbrev pub kernel_mapping : Record → ℕ → Option Place
+kernel_mapping (Scan process base size image) pc = None
+kernel_mapping (Load process base size image) pc = None
+kernel_mapping (Unload process base size) pc = None
+kernel_mapping (Exec process base size image) pc = None
+kernel_mapping (Exit process) pc = None
+kernel_mapping (Kernel base size image) pc = place_if_covered base size image pc
+kernel_mapping Drain pc = None
+kernel_mapping Merge pc = None
+kernel_mapping Epoch pc = None
 
+-- the first place, or the other where there is none
 abbrev pub or_else : Option Place → Option Place → Option Place
 or_else None other = other
 or_else (Some place) other = Some place
+
+-- the latest mapping of the kernel that covers the address. The latest record stands first
+abbrev pub kernel_place : List Record → ℕ → Option Place
+kernel_place [] pc = None
+kernel_place (entry ∷ earlier) pc = or_else (kernel_mapping entry pc) (kernel_place earlier pc)
 
 -- the place that these records, in the order of the trace, give an address of a process
 abbrev pub place_after : List Record → ℕ → ℕ → Option Place
