@@ -54,7 +54,7 @@ upper_case : refused BadNumber (header ∷ codes "s 0 7 100C cycles" ∷ [])
 upper_case = refl
 empty_mapping : refused OutOfRange (header ∷ codes "load 7 0 0 A" ∷ [])
 empty_mapping = refl
-highest_mapping : good (header ∷ codes "load 7 fffffffffffffff8 4 A" ∷ codes "end" ∷ []) (ShortHeader 1 ∷ Loaded 7 18446744073709551608 4 (codes "A") ∷ Ended ∷ [])
+highest_mapping : good (header ∷ codes "load 7 fffffffffffffff8 4 A" ∷ codes "end" ∷ []) (LongHeader 1 4096 8192 ∷ Loaded 7 18446744073709551608 4 (codes "A") ∷ Ended ∷ [])
 highest_mapping = refl
 mapping_past_the_end : refused OutOfRange (header ∷ codes "load 7 fffffffffffffff8 8 A" ∷ [])
 mapping_past_the_end = refl

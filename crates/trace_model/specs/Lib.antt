@@ -3,3 +3,4 @@ pub mod Counting
 pub mod Grammar
 pub mod Recording
 pub mod Said
+pub mod Traces

@@ -55,13 +55,9 @@ step_said (Lane cpu) = Turned cpu
 step_said (Poll cpu cell) = Polled cpu cell
 step_said Advance = Advanced
 
--- all that stands behind the header
-abbrev pub said_behind_header : Recording → List (Said ℕ)
-said_behind_header r = map (line_said r.images) r.lines ++ Ended ∷ map step_said r.schedule
-
--- what the trace says, line by line, with its sizes in the header
+-- what the trace says, line by line
 abbrev pub said_in : Recording → List (Said ℕ)
-said_in r = LongHeader r.cpus r.buckets r.buffer ∷ said_behind_header r
+said_in r = LongHeader r.cpus r.buckets r.buffer ∷ (map (line_said r.images) r.lines ++ Ended ∷ map step_said r.schedule)
 
 -- nothing is wrong with the values of these lines, after what the lines before them said
 abbrev pub are_good : List (Said ℕ) → List (Said ℕ) → Bool
@@ -75,14 +71,7 @@ with_name names name = if list_any (bytes_eq name) names then names else names +
 abbrev pub images_in_order : List (Said ℕ) → List (List ℕ)
 images_in_order said = fold with_name [] (flat_map images_named said)
 
--- these lines are this trace: with its sizes in the header, or by a short header where the sizes are the usual ones
-pub data IsSaidBy (r : Recording) (said : List (Said ℕ)) : Type 0 where
-  WithSizes : said ≡ said_in r → IsSaidBy r said
-  Short : r.buckets ≡ 4096 → r.buffer ≡ 8192 → said ≡ ShortHeader r.cpus ∷ said_behind_header r → IsSaidBy r said
-
 -- the bytes read as this trace
 pub record Reads (bytes : List ℕ) (r : Recording) : Type 0 where
-  pub said : List (Said ℕ)
-  pub says : Says bytes said
-  pub lines : IsSaidBy r said
-  pub images : r.images ≡ images_in_order said
+  pub says : Says bytes (said_in r)
+  pub images : r.images ≡ images_in_order (said_in r)

@@ -47,10 +47,16 @@ said_with dec hex (Turned cpu) = Turned (dec cpu)
 said_with dec hex (Polled cpu cell) = Polled (dec cpu) (dec cell)
 said_with dec hex Advanced = Advanced
 
--- the values of the fields, and their canonical spellings
-abbrev pub values_of : Said (List ℕ) → Said ℕ
-values_of raw = said_with (value_of 10) (value_of 16) raw
+-- a short header stands for the usual sizes: 4,096 buckets, and buffers of 8,192 entries
+abbrev pub with_sizes : Said ℕ → Said ℕ
+with_sizes (ShortHeader cpus) = LongHeader cpus 4096 8192
+with_sizes said = said
 
+-- the values of the fields
+abbrev pub values_of : Said (List ℕ) → Said ℕ
+values_of raw = with_sizes (said_with (value_of 10) (value_of 16) raw)
+
+-- the canonical spellings of the fields
 abbrev pub spellings_of : Said ℕ → Said (List ℕ)
 spellings_of said = said_with decimal (digits 16 false) said
 
