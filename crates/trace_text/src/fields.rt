@@ -1,0 +1,92 @@
+ghost use Rattle.std.specs.Prelude.{◌≡◌, ◌<◌, ◌≤◌, IsTrue, [], ◌∷◌, length, MatchOption, true, false};
+ghost use Rattle.text_num.specs.Numbers.{value_of};
+ghost use Rattle.trace_model.specs.Grammar.{cut_at_spaces};
+ghost use Rattle.trace_model.specs.Said.{Decimal, Address, Mapping, PowerOfTwo, is_table_size};
+ghost use Rattle.trace_text.specs.Forms.{fields_behind, read_field, ReadsAs};
+
+use memchr::memchr;
+use text_num::{read_dec, read_hex};
+
+/// The first field of a text, and the text behind the space that ends it.
+pub fn cut(text: &[u8]) -> (&[u8], Option<&[u8]>)
+    ensures { cut_at_spaces text.now ≡ result.0.now ∷ fields_behind result.1 }
+{
+    match memchr(b' ', text) {
+        Some(at) => (&text[..at], Some(&text[at + 1..])),
+        None => (text, None),
+    }
+}
+
+/// Four fields, and the text behind the space that ends them.
+#[derive(Clone, Copy)]
+pub struct Four<'a> {
+    pub a: &'a [u8],
+    pub b: &'a [u8],
+    pub c: &'a [u8],
+    pub d: &'a [u8],
+    pub rest: Option<&'a [u8]>,
+}
+
+/// The first four fields of a text; nothing where it has fewer.
+pub fn cut_four(text: &[u8]) -> Option<Four<'_>>
+    ensures { MatchOption result (length (cut_at_spaces text.now) < 4) (λ f. cut_at_spaces text.now ≡ f.a.now ∷ f.b.now ∷ f.c.now ∷ f.d.now ∷ fields_behind f.rest) }
+{
+    let (a, after_a) = cut(text);
+    let (b, after_b) = cut(after_a?);
+    let (c, after_c) = cut(after_b?);
+    let (d, rest) = cut(after_c?);
+    Some(Four { a, b, c, d, rest })
+}
+
+/// A decimal field in its range; nothing where it is not canonical or outside.
+pub fn decimal(text: &[u8], least: u32, most: u32) -> Option<u32>
+    ensures { ReadsAs (read_field (Decimal least most text.now)) (value_of 10 text.now) result }
+{
+    let n = read_dec(text)?;
+    if u64::from(least) <= n && n <= u64::from(most) {
+        Some(n as u32)
+    } else {
+        None
+    }
+}
+
+/// A number of buckets; nothing where it is not canonical or no power of two from 1 to 4,096.
+pub fn table_size(text: &[u8]) -> Option<u32>
+    ensures { ReadsAs (read_field (PowerOfTwo text.now)) (value_of 10 text.now) result }
+{
+    let n = read_dec(text)?;
+    if is_table_size(n) {
+        Some(n as u32)
+    } else {
+        None
+    }
+}
+
+// A power of two from 1 to 4,096.
+fn is_table_size(n: u64) -> bool
+    ensures test { result ≡ is_table_size n }
+    ensures small { IsTrue result → n ≤ 4096 }
+{
+    [1, 2, 4, 8, 16, 32, 64, 128, 256, 512, 1024, 2048, 4096].contains(&n)
+}
+
+/// An address; nothing where it is not canonical or 2^64 or more.
+pub fn address(text: &[u8]) -> Option<u64>
+    ensures { ReadsAs (read_field (Address text.now)) (value_of 16 text.now) result }
+{
+    read_hex(text)
+}
+
+/// The base and the length of a mapping; nothing where one is not canonical, or the length is 0, or the end is above
+/// 2^64 - 4.
+pub fn mapping(base: &[u8], size: &[u8]) -> Option<(u64, u64)>
+    ensures { MatchOption result (read_field (Mapping base.now size.now) ≡ false) (λ m. (read_field (Mapping base.now size.now) ≡ true) × (m.0 ≡ value_of 16 base.now) × (m.1 ≡ value_of 16 size.now)) }
+{
+    let base = read_hex(base)?;
+    let size = read_hex(size)?;
+    if 1 <= size && base <= 18446744073709551612 && size <= 18446744073709551612 - base {
+        Some((base, size))
+    } else {
+        None
+    }
+}

@@ -1,0 +1,118 @@
+ghost use Rattle.std.specs.Prelude.{◌≡◌, ◌&&◌, [], ◌∷◌, if◌then◌else◌, Some, None};
+ghost use Rattle.std.specs.Option.{option_map};
+ghost use Rattle.trace_model.specs.Grammar.{header_of, cut_at_spaces};
+ghost use Rattle.trace_model.specs.Said.{every, tested, is_spelled, values_of};
+ghost use Rattle.trace_text.specs.Forms.{header_shown, read_field};
+ghost use Rattle.trace_text.specs.Judging.{size_shown};
+
+use crate::fields::{Four, cut_four, decimal, table_size};
+use text_num::is_dec;
+
+/// A header whose words are in order, with its number fields as they stand.
+#[derive(Clone, Copy)]
+pub enum HeaderForm<'a> {
+    Short {
+        cpus: &'a [u8],
+    },
+    Long {
+        cpus: &'a [u8],
+        buckets: &'a [u8],
+        buffer: &'a [u8],
+    },
+}
+
+/// The sizes that a header gives.
+#[derive(Clone, Copy)]
+pub struct Sizes {
+    pub cpus: u32,
+    pub buckets: u32,
+    pub buffer: u32,
+}
+
+/// The form of a header; nothing where the line has none.
+pub fn header_form(line: &[u8]) -> Option<HeaderForm<'_>>
+    ensures { option_map header_shown result ≡ header_of (cut_at_spaces line.now) }
+{
+    let front = cut_four(line)?;
+    let Some(behind) = front.rest else {
+        return short_form(front.a, front.b, front.c, front.d);
+    };
+    let back = cut_four(behind)?;
+    match back.rest {
+        None => long_form(&front, &back),
+        Some(_) => None,
+    }
+}
+
+fn long_form<'a>(front: &Four<'a>, back: &Four<'a>) -> Option<HeaderForm<'a>>
+    ensures { option_map header_shown result ≡ header_of (front.now.a.now ∷ front.now.b.now ∷ front.now.c.now ∷ front.now.d.now ∷ back.now.a.now ∷ back.now.b.now ∷ back.now.c.now ∷ back.now.d.now ∷ []) }
+{
+    if front.a == b"dcpi-trace".as_slice()
+        && front.b == b"1".as_slice()
+        && front.c == b"cpus".as_slice()
+        && back.a == b"buckets".as_slice()
+        && back.c == b"buffer".as_slice()
+    {
+        Some(HeaderForm::Long {
+            cpus: front.d,
+            buckets: back.b,
+            buffer: back.d,
+        })
+    } else {
+        None
+    }
+}
+
+fn short_form<'a>(a: &[u8], b: &[u8], c: &[u8], cpus: &'a [u8]) -> Option<HeaderForm<'a>>
+    ensures { option_map header_shown result ≡ header_of (a.now ∷ b.now ∷ c.now ∷ cpus.now ∷ []) }
+{
+    if a == b"dcpi-trace".as_slice() && b == b"1".as_slice() && c == b"cpus".as_slice() {
+        Some(HeaderForm::Short { cpus })
+    } else {
+        None
+    }
+}
+
+/// Whether each number field is canonical.
+pub fn is_spelled(form: &HeaderForm<'_>) -> bool
+    ensures { result ≡ every is_spelled (tested (header_shown form.now)) }
+{
+    match form {
+        HeaderForm::Short { cpus } => is_dec(cpus),
+        HeaderForm::Long {
+            cpus,
+            buckets,
+            buffer,
+        } => is_dec(cpus) && (is_dec(buckets) && is_dec(buffer)),
+    }
+}
+
+/// The sizes, where each number field is canonical and in its range.
+pub fn read_sizes(form: &HeaderForm<'_>) -> Option<Sizes>
+    ensures { option_map size_shown result ≡ (if every read_field (tested (header_shown form.now)) then Some (values_of (header_shown form.now)) else None) }
+{
+    match *form {
+        HeaderForm::Short { cpus } => {
+            let cpus = decimal(cpus, 1, 16)?;
+            Some(Sizes {
+                cpus,
+                buckets: 4096,
+                buffer: 8192,
+            })
+        }
+        HeaderForm::Long {
+            cpus,
+            buckets,
+            buffer,
+        } => {
+            let cpus = decimal(cpus, 1, 16)?;
+            let buckets = table_size(buckets)?;
+            let buffer = decimal(buffer, 1, 8192)?;
+            Some(Sizes {
+                cpus,
+                buckets,
+                buffer,
+            })
+        }
+    }
+}

@@ -1,0 +1,10 @@
+//! Reads and writes recorded traces as text. A trace is read line by line, in large pieces of the input, and refused at
+//! its first bad line with the first reason that applies.
+#![tactic(auto)]
+
+mod body;
+mod fields;
+mod headers;
+mod steps;
+
+pub use trace_model::{Line, Record, Step, Trace, TraceWhy};
