@@ -173,7 +173,7 @@ module _ (base : ℕ) (two : 2 ≤ base) (most : base ≤ 16) where
       (λ _ front. writes_onto k (n / base) s.0 ((div-lt_iff_lt-mul {k = base} {x = n} {y = base ^ suc k} (omega arith)).1 (omega (arith, small, pow-suc base (suc k)))) front)
 
 -- a number that is told was spelled canonically, and is below 2 ^ 64
-told_of : (b c : Bool) (m n : ℕ) → (if b && c then Some m else None) ≡ Some n → (b ≡ true) × (c ≡ true) × (m ≡ n)
+pub told_of : (b c : Bool) (m n : ℕ) → (if b && c then Some m else None) ≡ Some n → (b ≡ true) × (c ≡ true) × (m ≡ n)
 told_of true true m n e = (refl, refl, cc)
 told_of true false m n e = cc
 told_of false c m n e = cc

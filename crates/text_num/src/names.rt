@@ -99,7 +99,8 @@ impl PartialEq for Name {
     }
 }
 
-fn is_name(bytes: &[u8]) -> bool
+/// Whether these bytes are a name.
+pub fn is_name(bytes: &[u8]) -> bool
     ensures { result ≡ is_name bytes.now }
 {
     1 <= bytes.len() && bytes.len() <= 255 && are_visible(bytes)

@@ -79,7 +79,7 @@ cpus_in (LongHeader cpus buckets buffer ∷ more) = cpus
 cpus_in _ = 0
 
 abbrev pub names_no_cpu : List (Said ℕ) → Said ℕ → Bool
-names_no_cpu before said = nat_le (cpus_in before) (unwrap_or (cpu_named said) 0) && is_some (cpu_named said)
+names_no_cpu before said = is_some (cpu_named said) && nat_le (cpus_in before) (unwrap_or (cpu_named said) 0)
 
 abbrev pub scans_too_late : List (Said ℕ) → Said ℕ → Bool
 scans_too_late before said = is_scan said && not (list_all may_precede_scan before)
@@ -90,9 +90,9 @@ is_sample_too_many before said = is_sample said && nat_le 2000000 (count_by is_s
 -- 65,536 records, of which 1,024 end a part, and 4,000,000 steps
 abbrev pub is_record_too_many : List (Said ℕ) → Said ℕ → Bool
 is_record_too_many before said =
-    (is_record said && nat_le 65536 (count_by is_record before))
-    || ((ends_part said && nat_le 1024 (count_by ends_part before))
-    || (is_step said && nat_le 4000000 (count_by is_step before)))
+    if is_step said then nat_le 4000000 (count_by is_step before)
+    else (if ends_part said then nat_le 65536 (count_by is_record before) || nat_le 1024 (count_by ends_part before)
+    else (is_record said && nat_le 65536 (count_by is_record before)))
 
 -- the first of these that applies
 abbrev pub first_that_applies : List (TraceWhy × Bool) → Option TraceWhy

@@ -2,13 +2,9 @@
 use Rattle.std.proofs.Common.{◌≡◌, ℕ, ◌^◌, ◌&&◌, Bool, true, false, List, refl, ap, sym, subst, ◌∙◌, Option, Some, None, ltb, if◌then◌else◌}
 use Rattle.std.proofs.lemmas.Bool.{and_from}
 use Rattle.text_num.specs.Numbers.{number, is_canonical, value_of}
+use Rattle.text_num.proofs.Spelling.{told_of}
 use Rattle.trace_model.specs.Said.{PowerOfTwo, is_table_size}
 use Rattle.trace_text.specs.Forms.{read_field}
-
-told_of : (b c : Bool) (m n : ℕ) → (if b && c then Some m else None) ≡ Some n → (b ≡ true) × (c ≡ true) × (m ≡ n)
-told_of true true m n e = (refl, refl, cc)
-told_of true false m n e = cc
-told_of false c m n e = cc
 
 pub table_told : (text : List ℕ) (n : ℕ) → number 10 text ≡ Some n → is_table_size n ≡ true → (read_field (PowerOfTwo text) ≡ true) × (n ≡ value_of 10 text)
 table_told text n e size = let t = told_of (is_canonical 10 text) (ltb (value_of 10 text) (2 ^ 64)) (value_of 10 text) n e in

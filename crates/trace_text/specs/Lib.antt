@@ -1,2 +1,8 @@
+pub mod Entries
 pub mod Forms
 pub mod Judging
+pub mod Progress
+pub mod Refusing
+pub mod State
+pub mod Stepping
+pub mod Taking

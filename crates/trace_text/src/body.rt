@@ -6,7 +6,7 @@ ghost use Rattle.trace_text.specs.Forms.{body_shown, values_shown, read_field};
 
 use crate::fields::{address, cut, decimal, mapping};
 use sample_key::Event;
-use text_num::{is_dec, is_hex};
+use text_num::{is_dec, is_hex, is_name};
 
 /// A line of the body whose words are in order, with its other fields as they stand.
 #[derive(Clone, Copy)]
@@ -344,5 +344,43 @@ pub fn read_values<'a>(form: &BodyForm<'a>) -> Option<BodyValues<'a>>
         BodyForm::Merge => Some(BodyValues::Merge),
         BodyForm::Epoch => Some(BodyValues::Epoch),
         BodyForm::End => Some(BodyValues::End),
+    }
+}
+
+/// Whether addresses and lengths are multiples of 4.
+pub fn is_aligned(values: &BodyValues<'_>) -> bool
+    ensures { result ≡ every is_aligned (tested (values_shown values.now)) }
+{
+    match values {
+        BodyValues::Sample { cpu: _, pid: _, pc, event: _ } => *pc % 4 == 0,
+        BodyValues::Scan { pid: _, base, size, image: _ } => (*base % 4 == 0 && *size % 4 == 0) && true,
+        BodyValues::Load { pid: _, base, size, image: _ } => (*base % 4 == 0 && *size % 4 == 0) && true,
+        BodyValues::Unload { pid: _, base, size } => *base % 4 == 0 && *size % 4 == 0,
+        BodyValues::Exec { pid: _, base, size, image: _ } => (*base % 4 == 0 && *size % 4 == 0) && true,
+        BodyValues::Exit { .. } => true,
+        BodyValues::Kernel { base, size, image: _ } => (*base % 4 == 0 && *size % 4 == 0) && true,
+        BodyValues::Drain => true,
+        BodyValues::Merge => true,
+        BodyValues::Epoch => true,
+        BodyValues::End => true,
+    }
+}
+
+/// Whether an image that is named has a name.
+pub fn is_titled(values: &BodyValues<'_>) -> bool
+    ensures { result ≡ every is_titled (tested (values_shown values.now)) }
+{
+    match values {
+        BodyValues::Sample { .. } => true,
+        BodyValues::Scan { pid: _, base: _, size: _, image } => is_name(image),
+        BodyValues::Load { pid: _, base: _, size: _, image } => is_name(image),
+        BodyValues::Unload { .. } => true,
+        BodyValues::Exec { pid: _, base: _, size: _, image } => is_name(image),
+        BodyValues::Exit { .. } => true,
+        BodyValues::Kernel { base: _, size: _, image } => is_name(image),
+        BodyValues::Drain => true,
+        BodyValues::Merge => true,
+        BodyValues::Epoch => true,
+        BodyValues::End => true,
     }
 }

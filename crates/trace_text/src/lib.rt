@@ -5,6 +5,11 @@
 mod body;
 mod fields;
 mod headers;
+mod input;
+mod refusals;
+mod body_state;
+mod schedule;
 mod steps;
 
+pub use refusals::TraceRefusal;
 pub use trace_model::{Line, Record, Step, Trace, TraceWhy};

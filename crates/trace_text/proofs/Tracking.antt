@@ -1,0 +1,178 @@
+-- What the reader counts, one line later.
+use Rattle.std.proofs.Common.{◌≡◌, ℕ, zero, suc, ◌+◌, ◌*◌, ◌^◌, ◌<◌, ◌≤◌, ◌&&◌, ◌||◌, Bool, true, false, not, cond, List, [], ◌∷◌, ◌++◌, length, map, refl, ap, sym, subst, ◌∙◌, arith, Option, Some, None, if◌then◌else◌, nat_le, nat_lt, append_assoc}
+use Rattle.std.specs.List.{count_by, list_all, list_any, flat_map, fold, slice_get}
+use Rattle.std.specs.Option.{is_some, is_none, unwrap_or}
+use Rattle.std.specs.Str.{bytes_eq}
+use Rattle.std.proofs.lemmas.Bool.{and_parts, and_from, or_parts, leb-false, ltb-true, lt-ltb, true≢false, false≢true}
+use Rattle.std.proofs.lemmas.List.{append-nil, map-append, length-append}
+use Rattle.std.proofs.lemmas.List.Sums.{sum_by-append, fold-append}
+use Rattle.std.proofs.lemmas.List.Folds.{list_all-append}
+use Rattle.std.proofs.lemmas.Grind.{flat_map-append}
+use Rattle.trace_model.specs.declared.notices.Record.{Record}
+use Rattle.trace_model.specs.declared.notices.Record.TheVariants.{Scan, Load, Unload, Exec, Exit, Kernel, Drain, Merge, Epoch}
+use Rattle.trace_model.specs.declared.notices.Line.{Line}
+use Rattle.trace_model.specs.declared.notices.Line.TheVariants.{Sample, Rec}
+use Rattle.sample_key.specs.declared.events.Event.{Event}
+use Rattle.trace_model.specs.declared.reasons.TraceWhy.{TraceWhy}
+use Rattle.trace_model.specs.Said.{Said, Sampled, Scanned, Loaded, Executed, KernelMapped, is_sample, is_record, is_step, ends_part, may_precede_scan, images_named}
+use Rattle.trace_model.specs.Grammar.{first_that_applies, value_tests, is_sample_too_many, is_record_too_many}
+use Rattle.trace_model.specs.Recording.{line_said, record_said, name_at, with_name, images_in_order, are_good}
+use Rattle.trace_text.specs.State.{Tracks, is_among, line_is_among}
+use Rattle.trace_text.proofs.Judged.{and_true, passes}
+
+-- one element more
+pub count_push : {A : Type 0} (p : A → Bool) (xs : List A) (x : A) → count_by p (xs ++ x ∷ []) ≡ count_by p xs + cond (p x) 1 0
+count_push p xs x = sum_by-append (λ y. cond (p y) 1 0) xs (x ∷ []) ∙ omega arith
+
+pub all_push : {A : Type 0} (p : A → Bool) (xs : List A) (x : A) → list_all p (xs ++ x ∷ []) ≡ (list_all p xs && p x)
+all_push p xs x = list_all-append p xs (x ∷ []) ∙ ap (λ b. list_all p xs && b) (and_true (p x))
+
+pub images_push : (said : List (Said ℕ)) (next : Said ℕ) → images_in_order (said ++ next ∷ []) ≡ fold with_name (images_in_order said) (images_named next)
+images_push said next = ap (fold with_name []) (flat_map-append images_named said (next ∷ []) ∙ ap (λ l. flat_map images_named said ++ l) (append-nil (images_named next)))
+    ∙ fold-append with_name [] (flat_map images_named said) (images_named next)
+
+is_none_of : (o : Option TraceWhy) → o ≡ None → is_none o ≡ true
+is_none_of None e = refl
+is_none_of (Some why) e = absurd (some_none e)
+  where
+    some_none : Some why ≡ None → ⊥
+    some_none e = cc
+
+pub good_push : (before said : List (Said ℕ)) (next : Said ℕ) → are_good before said ≡ true → first_that_applies (value_tests (before ++ said) next) ≡ None → are_good before (said ++ next ∷ []) ≡ true
+good_push before [] next g e = and_from _ _ (is_none_of _ (subst (λ (l : List (Said ℕ)). first_that_applies (value_tests l next) ≡ None) (append-nil before) e)) refl
+good_push before (s ∷ said) next g e = let h = and_parts _ _ g in
+    and_from _ _ h.0 (good_push (before ++ s ∷ []) said next h.1 (subst (λ (l : List (Said ℕ)). first_that_applies (value_tests l next) ≡ None) (sym (append_assoc before (s ∷ []) said)) e))
+
+-- an image keeps its index when one more is named
+pub name_at_front : (images more : List (List ℕ)) (i : ℕ) → i < length images → name_at (images ++ more) i ≡ name_at images i
+name_at_front [] more i h = absurd (omega arith)
+name_at_front (image ∷ images) more zero h = refl
+name_at_front (image ∷ images) more (suc i) h = name_at_front images more i (omega arith)
+
+said_front : (images more : List (List ℕ)) (entry : Record) → is_among (length images) entry ≡ true → record_said (images ++ more) entry ≡ record_said images entry
+said_front images more (Scan pid base size image) h = ap (λ n. Scanned pid base size n) (name_at_front images more image (ltb-true _ _ h))
+said_front images more (Load pid base size image) h = ap (λ n. Loaded pid base size n) (name_at_front images more image (ltb-true _ _ h))
+said_front images more (Unload pid base size) h = refl
+said_front images more (Exec pid base size image) h = ap (λ n. Executed pid base size n) (name_at_front images more image (ltb-true _ _ h))
+said_front images more (Exit pid) h = refl
+said_front images more (Kernel base size image) h = ap (λ n. KernelMapped base size n) (name_at_front images more image (ltb-true _ _ h))
+said_front images more Drain h = refl
+said_front images more Merge h = refl
+said_front images more Epoch h = refl
+
+line_front : (images more : List (List ℕ)) (line : Line) → line_is_among (length images) line ≡ true → line_said (images ++ more) line ≡ line_said images line
+line_front images more (Sample cpu key) h = refl
+line_front images more (Rec entry) h = said_front images more entry h
+
+-- what the lines say stays
+pub lines_front : (images more : List (List ℕ)) (lines : List Line) → list_all (line_is_among (length images)) lines ≡ true → map (line_said (images ++ more)) lines ≡ map (line_said images) lines
+lines_front images more [] h = refl
+lines_front images more (line ∷ lines) h = let a = and_parts _ _ h in λ i. line_front images more line a.0 i ∷ lines_front images more lines a.1 i
+
+among_more : (m n : ℕ) (entry : Record) → m ≤ n → is_among m entry ≡ true → is_among n entry ≡ true
+among_more m n (Scan pid base size image) le h = lt-ltb image n (omega (arith, ltb-true image m h))
+among_more m n (Load pid base size image) le h = lt-ltb image n (omega (arith, ltb-true image m h))
+among_more m n (Unload pid base size) le h = refl
+among_more m n (Exec pid base size image) le h = lt-ltb image n (omega (arith, ltb-true image m h))
+among_more m n (Exit pid) le h = refl
+among_more m n (Kernel base size image) le h = lt-ltb image n (omega (arith, ltb-true image m h))
+among_more m n Drain le h = refl
+among_more m n Merge le h = refl
+among_more m n Epoch le h = refl
+
+pub lines_among_more : (m n : ℕ) (lines : List Line) → m ≤ n → list_all (line_is_among m) lines ≡ true → list_all (line_is_among n) lines ≡ true
+lines_among_more m n [] le h = refl
+lines_among_more m n (Sample cpu key ∷ lines) le h = lines_among_more m n lines le h
+lines_among_more m n (Rec entry ∷ lines) le h = let a = and_parts _ _ h in and_from _ _ (among_more m n entry le a.0) (lines_among_more m n lines le a.1)
+
+-- the names after one more are those before with at most one behind them
+pub with_name_front : (images : List (List ℕ)) (name : List ℕ) → (more : List (List ℕ)) × (with_name images name ≡ images ++ more) × (length more ≤ 1)
+with_name_front images name = by (list_any (bytes_eq name) images)
+  where
+    by : (found : Bool) → (more : List (List ℕ)) × ((if found then images else images ++ name ∷ []) ≡ images ++ more) × (length more ≤ 1)
+    by true = ([], sym (append-nil images), omega arith)
+    by false = (name ∷ [], refl, omega arith)
+
+-- a record that passes is one of at most 65,536, and ends one of at most 1,024 parts
+pub room : (said : List (Said ℕ)) (images : List (List ℕ)) (entry : Record) → count_by ends_part said ≤ 1024 → is_record_too_many said (record_said images entry) ≡ false
+    → (count_by is_record said < 65536) × (count_by ends_part said + cond (ends_part (record_said images entry)) 1 0 ≤ 1024)
+room said images (Scan pid base size image) p h = (leb-false _ _ h, omega arith)
+room said images (Load pid base size image) p h = (leb-false _ _ h, omega arith)
+room said images (Unload pid base size) p h = (leb-false _ _ h, omega arith)
+room said images (Exec pid base size image) p h = (leb-false _ _ h, omega arith)
+room said images (Exit pid) p h = (leb-false _ _ h, omega arith)
+room said images (Kernel base size image) p h = (leb-false _ _ h, omega arith)
+room said images Drain p h = (leb-false _ _ h, omega arith)
+room said images Merge p h = let o = or_parts _ _ h in (leb-false _ _ o.0, omega (arith, leb-false _ _ o.1))
+room said images Epoch p h = let o = or_parts _ _ h in (leb-false _ _ o.0, omega (arith, leb-false _ _ o.1))
+
+is_record_is : (images : List (List ℕ)) (entry : Record) → (is_record (record_said images entry) ≡ true) × (is_sample (record_said images entry) ≡ false) × (is_step (record_said images entry) ≡ false)
+is_record_is images (Scan pid base size image) = (refl, refl, refl)
+is_record_is images (Load pid base size image) = (refl, refl, refl)
+is_record_is images (Unload pid base size) = (refl, refl, refl)
+is_record_is images (Exec pid base size image) = (refl, refl, refl)
+is_record_is images (Exit pid) = (refl, refl, refl)
+is_record_is images (Kernel base size image) = (refl, refl, refl)
+is_record_is images Drain = (refl, refl, refl)
+is_record_is images Merge = (refl, refl, refl)
+is_record_is images Epoch = (refl, refl, refl)
+
+named : (images : List (List ℕ)) (name : List ℕ) → length (with_name images name) ≤ length images + 1
+named images name = let f = with_name_front images name in omega (arith, ap length f.1, length-append images f.0, f.2)
+
+at_most_one : (images : List (List ℕ)) (all : List (List ℕ)) (entry : Record) → length (fold with_name images (images_named (record_said all entry))) ≤ length images + 1
+at_most_one images all (Scan pid base size image) = named images (name_at all image)
+at_most_one images all (Load pid base size image) = named images (name_at all image)
+at_most_one images all (Unload pid base size) = omega arith
+at_most_one images all (Exec pid base size image) = named images (name_at all image)
+at_most_one images all (Exit pid) = omega arith
+at_most_one images all (Kernel base size image) = named images (name_at all image)
+at_most_one images all Drain = omega arith
+at_most_one images all Merge = omega arith
+at_most_one images all Epoch = omega arith
+
+-- a record more
+pub tracks_record : (said : List (Said ℕ)) (images all : List (List ℕ)) (samples records parts : ℕ) (scans : Bool) (entry : Record)
+    → Tracks said images samples records parts scans → first_that_applies (value_tests said (record_said all entry)) ≡ None
+    → all ≡ fold with_name images (images_named (record_said all entry))
+    → Tracks (said ++ record_said all entry ∷ []) all samples (records + 1) (parts + cond (ends_part (record_said all entry)) 1 0) (scans && may_precede_scan (record_said all entry))
+tracks_record said images all samples records parts scans entry t e named =
+    let kind = is_record_is all entry in
+    let rooms = room said all entry (omega (arith, t.parts_are, t.parts_most)) (passes said (record_said all entry) e).record_room in
+    record {
+      images_are = named ∙ ap (λ l. fold with_name l (images_named (record_said all entry))) t.images_are ∙ sym (images_push said (record_said all entry));
+      samples_are = t.samples_are ∙ sym (count_push is_sample said (record_said all entry) ∙ ap (λ b. count_by is_sample said + cond b 1 0) kind.1 ∙ omega arith);
+      records_are = sym (count_push is_record said (record_said all entry) ∙ ap (λ b. count_by is_record said + cond b 1 0) kind.0 ∙ ap (λ n. n + 1) (sym t.records_are));
+      parts_are = ap (λ n. n + cond (ends_part (record_said all entry)) 1 0) t.parts_are ∙ sym (count_push ends_part said (record_said all entry));
+      no_steps = count_push is_step said (record_said all entry) ∙ ap (λ b. count_by is_step said + cond b 1 0) kind.2 ∙ omega (arith, t.no_steps);
+      scans_are = ap (λ b. b && may_precede_scan (record_said all entry)) t.scans_are ∙ sym (all_push may_precede_scan said (record_said all entry));
+      samples_most = t.samples_most;
+      records_most = omega (arith, rooms.0, t.records_are);
+      parts_most = omega (arith, rooms.1, t.parts_are);
+      few_images = omega (arith, t.few_images, ap length named, at_most_one images all entry);
+      good = good_push [] said (record_said all entry) t.good e;
+    }
+
+and_false : (b : Bool) → (b && false) ≡ false
+and_false true = refl
+and_false false = refl
+
+-- a sample more
+pub tracks_sample : (said : List (Said ℕ)) (images : List (List ℕ)) (samples records parts : ℕ) (scans : Bool) (cpu pid pc : ℕ) (event : Event)
+    → Tracks said images samples records parts scans → first_that_applies (value_tests said (Sampled cpu pid pc event)) ≡ None
+    → Tracks (said ++ Sampled cpu pid pc event ∷ []) images (samples + 1) records parts false
+tracks_sample said images samples records parts scans cpu pid pc event t e =
+    let next : Said ℕ = Sampled cpu pid pc event in
+    record {
+      images_are = t.images_are ∙ sym (images_push said next);
+      samples_are = ap (λ n. n + 1) t.samples_are ∙ sym (count_push is_sample said next);
+      records_are = t.records_are ∙ sym (count_push is_record said next ∙ omega arith);
+      parts_are = t.parts_are ∙ sym (count_push ends_part said next ∙ omega arith);
+      no_steps = count_push is_step said next ∙ omega (arith, t.no_steps);
+      scans_are = sym (all_push may_precede_scan said next ∙ and_false (list_all may_precede_scan said));
+      samples_most = omega (arith, leb-false 2000000 (count_by is_sample said) ((passes said next e).sample_room), t.samples_are);
+      records_most = t.records_most;
+      parts_most = t.parts_most;
+      few_images = t.few_images;
+      good = good_push [] said next t.good e;
+    }

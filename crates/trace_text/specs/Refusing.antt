@@ -1,0 +1,45 @@
+-- When a trace is refused, and for what.
+use Rattle.std.specs.Prelude.{◌≡◌, ℕ, List}
+use Rattle.std.specs.declared.option.Option.{Option}
+use Rattle.std.specs.declared.result.Result.{Result}
+use Rattle.std.specs.declared.result.Result.TheVariants.{Ok, Err}
+use Rattle.outside_io.specs.Causes.{Rose}
+use Rattle.line_reader.specs.declared.faults.LineFault.{LineFault}
+use Rattle.line_reader.specs.declared.faults.LineFault.TheVariants as faults
+use Rattle.trace_model.specs.Said.{Said}
+use Rattle.trace_text.specs.declared.refusals.LineRefusal.{LineRefusal}
+use Rattle.trace_text.specs.declared.refusals.LineRefusal.TheVariants as lines
+use Rattle.trace_text.specs.declared.refusals.TraceRefusal.{TraceRefusal}
+use Rattle.trace_text.specs.declared.refusals.TraceRefusal.TheVariants.{Bad, ReadFault, Memory}
+use Rattle.trace_text.specs.Progress.{Stops}
+
+-- a fault of a line is passed on as it is
+abbrev pub IsOfLineFault : LineFault → TraceRefusal → Type 0
+IsOfLineFault faults.ReadFault refusal = refusal ≡ ReadFault
+IsOfLineFault faults.Memory refusal = refusal ≡ Memory
+
+-- the count of faults rose where a read failed, and else stays, so that no fault is passed over
+abbrev pub TellsFaults : {T : Type 0} → ℕ → ℕ → Result T TraceRefusal → Type 0
+TellsFaults before now (Ok value) = now ≡ before
+TellsFaults before now (Err ReadFault) = Rose before now
+TellsFaults before now (Err (Bad line why)) = now ≡ before
+TellsFaults before now (Err Memory) = now ≡ before
+
+-- a refusal of a line, at its number
+abbrev pub IsOfLineRefusal : ℕ → LineRefusal → TraceRefusal → Type 0
+IsOfLineRefusal number (lines.Bad why) refusal = refusal ≡ Bad number why
+IsOfLineRefusal number lines.Memory refusal = refusal ≡ Memory
+
+-- no line is refused here
+abbrev pub IsLineFaultOnly : {T : Type 0} → Result T TraceRefusal → Type 0
+IsLineFaultOnly (Ok value) = Unit {0}
+IsLineFaultOnly (Err ReadFault) = Unit {0}
+IsLineFaultOnly (Err (Bad line why)) = ⊥
+IsLineFaultOnly (Err Memory) = Unit {0}
+
+-- where the reading stops at a bad line
+abbrev pub Halts : {T : Type 0} → Option (List ℕ) → List (Said ℕ) → ℕ → Result T TraceRefusal → Type 0
+Halts old before count (Ok value) = Unit {0}
+Halts old before count (Err (Bad line why)) = Stops old before count line why
+Halts old before count (Err ReadFault) = Unit {0}
+Halts old before count (Err Memory) = Unit {0}

@@ -1,0 +1,74 @@
+-- What the reader keeps of the body and the schedule, and what they say.
+use Rattle.std.specs.Prelude.{◌≡◌, ℕ, ◌+◌, ◌≤◌, nat_lt, Bool, true, false, if◌then◌else◌, List, [], ◌∷◌, ◌++◌, map, length}
+use Rattle.std.specs.declared.option.Option.{Option}
+use Rattle.std.specs.declared.option.Option.TheVariants.{Some, None}
+use Rattle.std.specs.List.{list_all, count_by}
+use Rattle.std.specs.Ordering.{nat_cmp}
+use Rattle.std.specs.Cmp.Lexicographic.{slice_cmp}
+use Rattle.std.specs.BTreeMap.{get}
+use Rattle.std.specs.Str.{bytes_eq}
+use Rattle.trace_model.specs.declared.notices.Record.{Record}
+use Rattle.trace_model.specs.declared.notices.Record.TheVariants.{Scan, Load, Unload, Exec, Exit, Kernel, Drain, Merge, Epoch}
+use Rattle.trace_model.specs.declared.notices.Line.{Line}
+use Rattle.trace_model.specs.declared.notices.Line.TheVariants.{Sample, Rec}
+use Rattle.trace_model.specs.declared.notices.Step.{Step}
+use Rattle.trace_model.specs.Said.{Said, Ended, is_sample, is_record, is_step, ends_part, may_precede_scan}
+use Rattle.trace_model.specs.Recording.{line_said, step_said, images_in_order, are_good}
+use Rattle.trace_text.specs.declared.body_state.Body.{Body}
+use Rattle.trace_text.specs.Judging.{size_shown}
+
+-- the header, and what the lines of the body say so far
+abbrev pub said_in_body : Body → List (Said ℕ)
+said_in_body b = size_shown b.sizes ∷ map (line_said b.images.items) b.lines.items
+
+-- the same with the end and the steps behind it
+abbrev pub said_with_steps : Body → List Step → List (Said ℕ)
+said_with_steps b steps = said_in_body b ++ Ended ∷ map step_said steps
+
+-- the index of a name, counted from n
+abbrev pub index_from : ℕ → List (List ℕ) → List ℕ → Option ℕ
+index_from n [] name = None
+index_from n (first ∷ more) name = if bytes_eq name first then Some n else index_from (n + 1) more name
+
+-- the image that a record names by an index is among so many
+abbrev pub is_among : ℕ → Record → Bool
+is_among n (Scan pid base size image) = nat_lt image n
+is_among n (Load pid base size image) = nat_lt image n
+is_among n (Unload pid base size) = true
+is_among n (Exec pid base size image) = nat_lt image n
+is_among n (Exit pid) = true
+is_among n (Kernel base size image) = nat_lt image n
+is_among n Drain = true
+is_among n Merge = true
+is_among n Epoch = true
+
+abbrev pub line_is_among : ℕ → Line → Bool
+line_is_among n (Sample cpu key) = true
+line_is_among n (Rec entry) = is_among n entry
+
+-- what the reader counts agrees with what the lines say, which are all good
+pub record Tracks (said : List (Said ℕ)) (images : List (List ℕ)) (samples records parts : ℕ) (scans : Bool) : Type 0 where
+  pub images_are : images ≡ images_in_order said
+  pub samples_are : samples ≡ count_by is_sample said
+  pub records_are : records ≡ count_by is_record said
+  pub parts_are : parts ≡ count_by ends_part said
+  pub no_steps : count_by is_step said ≡ 0
+  pub scans_are : scans ≡ list_all may_precede_scan said
+  pub samples_most : samples ≤ 2000000
+  pub records_most : records ≤ 65536
+  pub parts_most : parts ≤ 1024
+  pub few_images : length images ≤ records
+  pub good : are_good [] said ≡ true
+
+pub record IsSound (b : Body) : Type 0 where
+  pub tracks : Tracks (said_in_body b) b.images.items b.samples b.records b.parts b.scans
+  pub index : (name : List ℕ) → get (slice_cmp nat_cmp) b.index name ≡ index_from 0 b.images.items name
+  pub among : list_all (line_is_among (length b.images.items)) b.lines.items ≡ true
+  pub lines_are : length b.lines.items ≡ b.samples + b.records
+
+-- the steps behind a body
+pub record AreSteps (b : Body) (steps : List Step) : Type 0 where
+  pub images_are : b.images.items ≡ images_in_order (said_with_steps b steps)
+  pub steps_are : length steps ≡ count_by is_step (said_with_steps b steps)
+  pub steps_most : length steps ≤ 4000000
+  pub good : are_good [] (said_with_steps b steps) ≡ true

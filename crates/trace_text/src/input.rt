@@ -1,0 +1,61 @@
+ghost use Rattle.std.specs.Prelude.{◌≡◌, ℕ, ◌+◌, ◌^◌, ◌<◌, [], IfOk};
+ghost use Rattle.std.specs.Io.KnownBytes.{prepend_known};
+ghost use Rattle.line_reader.specs.Reading.{ReadsLine};
+ghost use Rattle.trace_text.specs.Refusing.{TellsFaults, IsOfLineRefusal, IsLineFaultOnly};
+
+use crate::refusals::{LineRefusal, TraceRefusal};
+use line_reader::{Ending, LineReader};
+use outside_io::Source;
+use std::alloc::{AllocError, Global};
+use trace_model::TraceWhy;
+
+/// The most bytes of a line, without its line feed.
+const LONGEST_LINE: usize = 400;
+
+/// The input of a trace, line by line, with the number of the line that was read last, counted from 1.
+#[derive(Drop)]
+pub struct Input {
+    pub reader: LineReader,
+    pub line: Vec<u8>,
+    pub number: u64,
+}
+
+impl Input {
+    /// An input of which nothing was read.
+    pub fn new(alloc: Global) -> Result<Input, AllocError>
+        ensures { IfOk result (λ input. (input.reader ≡ []) × (input.number ≡ 0)) }
+    {
+        let reader = LineReader::new(alloc)?;
+        Ok(Input { reader, line: Vec::new(alloc), number: 0 })
+    }
+
+    /// Reads the next line.
+    pub fn next<S: Source>(&mut self, source: &mut S) -> Result<Ending, TraceRefusal>
+        requires { self.old.number < 2 ^ 62 }
+        ensures line { IfOk result (λ ending. ReadsLine 400 ending self.new.line.items (prepend_known self.old.reader (S.left source.old)) (prepend_known self.new.reader (S.left source.new))) }
+        ensures number { IfOk result (λ _. self.new.number ≡ self.old.number + 1) }
+        ensures only { IsLineFaultOnly result }
+        ensures faults { TellsFaults (S.faults source.old) (S.faults source.new) result }
+    {
+        self.number += 1;
+        let ending = self.reader.read_line(source, &mut self.line, LONGEST_LINE)?;
+        Ok(ending)
+    }
+
+    /// The refusal of the line that was read last.
+    pub fn bad(&self, why: TraceWhy) -> TraceRefusal
+        ensures { result ≡ TraceRefusal.Bad self.now.number why }
+    {
+        TraceRefusal::Bad { line: self.number, why }
+    }
+
+    /// The same, for a line that was not taken.
+    pub fn refused(&self, refusal: LineRefusal) -> TraceRefusal
+        ensures { IsOfLineRefusal self.now.number refusal result }
+    {
+        match refusal {
+            LineRefusal::Bad { why } => self.bad(why),
+            LineRefusal::Memory => TraceRefusal::Memory,
+        }
+    }
+}
