@@ -69,30 +69,33 @@ record_added old mid new said entry s n p passes =
     let images : new.images.items ≡ mid.images.items = ap (λ v. v.items) p.images in
     let says : record_said new.images.items entry ≡ said = ap (λ l. record_said l entry) images ∙ n.says in
     let named : new.images.items ≡ fold with_name old.images.items (images_named (record_said new.images.items entry))
-        = images ∙ n.images ∙ ap (λ t. fold with_name old.images.items (images_named t)) (sym says) in
+    = images ∙ n.images ∙ ap (λ t. fold with_name old.images.items (images_named t)) (sym says) in
     let lines : new.lines.items ≡ old.lines.items ++ Rec entry ∷ [] = p.lines ∙ ap (λ v. v.items ++ Rec entry ∷ []) n.kept.lines in
     let before = said_before old.images.items new.images.items entry old.lines.items named s.among in
     let whole : said_in_body new ≡ said_in_body old ++ said ∷ []
-        = (λ i. size_shown (p.sizes i) ∷ map (line_said new.images.items) (lines i))
-          ∙ (λ i. size_shown (n.kept.sizes i) ∷ map-append (line_said new.images.items) old.lines.items (Rec entry ∷ []) i)
-          ∙ (λ i. size_shown old.sizes ∷ (before.0 i ++ says i ∷ [])) in
+    = (λ i. size_shown (p.sizes i) ∷ map (line_said new.images.items) (lines i))
+    ∙ (λ i. size_shown (n.kept.sizes i) ∷ map-append (line_said new.images.items) old.lines.items (Rec entry ∷ []) i)
+    ∙ (λ i. size_shown old.sizes ∷ (before.0 i ++ says i ∷ [])) in
     let tracked = tracks_record (said_in_body old) old.images.items new.images.items old.samples old.records old.parts old.scans entry s.tracks
-        (subst (λ t. first_that_applies (value_tests (said_in_body old) t) ≡ None) (sym says) passes) named in
-    let kind = kind_of new.images.items entry in
-    (record {
-      tracks = track_as (said_in_body old ++ record_said new.images.items entry ∷ []) (said_in_body new) new.images.items
-        old.samples new.samples (old.records + 1) new.records (old.parts + cond (ends_part (record_said new.images.items entry)) 1 0) new.parts
-        (old.scans && may_precede_scan (record_said new.images.items entry)) new.scans
-        (ap (λ t. said_in_body old ++ t ∷ []) says ∙ sym whole)
-        (sym (p.samples ∙ n.kept.samples)) (sym (p.records ∙ ap (λ k. k + 1) n.kept.records))
-        (ap (λ b. old.parts + cond b 1 0) kind.0 ∙ sym (p.parts ∙ ap (λ k. k + cond (entry_ends_part entry) 1 0) n.kept.parts))
-        (ap (λ b. old.scans && b) kind.1 ∙ sym (p.scans ∙ ap (λ b. b && entry_may_precede_scan entry) n.kept.scans))
-        tracked;
-      index = λ name. ap (λ m. get (slice_cmp nat_cmp) m name) p.index ∙ n.kept.index name ∙ ap (λ l. index_from 0 l name) (sym images);
-      among = ap (list_all (line_is_among (length new.images.items))) lines ∙ all_push (line_is_among (length new.images.items)) old.lines.items (Rec entry)
-        ∙ and_from _ _ (lines_among_more (length old.images.items) (length new.images.items) old.lines.items before.1 s.among) (ap (λ l. is_among (length l) entry) images ∙ n.among);
-      lines_are = ap length lines ∙ omega (arith, length-append old.lines.items (Rec entry ∷ []), s.lines_are, p.samples, n.kept.samples, p.records, n.kept.records);
-    }, p.sizes ∙ n.kept.sizes, whole)
+    (subst (λ t. first_that_applies (value_tests (said_in_body old) t) ≡ None) (sym says) passes) named in
+    let kind = kind_of new.images.items entry in (
+      record {
+        tracks = track_as (said_in_body old ++ record_said new.images.items entry ∷ []) (said_in_body new) new.images.items
+            old.samples new.samples (old.records + 1) new.records (old.parts + cond (ends_part (record_said new.images.items entry)) 1 0) new.parts
+            (old.scans && may_precede_scan (record_said new.images.items entry)) new.scans
+            (ap (λ t. said_in_body old ++ t ∷ []) says ∙ sym whole)
+            (sym (p.samples ∙ n.kept.samples)) (sym (p.records ∙ ap (λ k. k + 1) n.kept.records))
+            (ap (λ b. old.parts + cond b 1 0) kind.0 ∙ sym (p.parts ∙ ap (λ k. k + cond (entry_ends_part entry) 1 0) n.kept.parts))
+            (ap (λ b. old.scans && b) kind.1 ∙ sym (p.scans ∙ ap (λ b. b && entry_may_precede_scan entry) n.kept.scans))
+            tracked;
+        index = λ name. ap (λ m. get (slice_cmp nat_cmp) m name) p.index ∙ n.kept.index name ∙ ap (λ l. index_from 0 l name) (sym images);
+        among = ap (list_all (line_is_among (length new.images.items))) lines ∙ all_push (line_is_among (length new.images.items)) old.lines.items (Rec entry)
+            ∙ and_from _ _ (lines_among_more (length old.images.items) (length new.images.items) old.lines.items before.1 s.among) (ap (λ l. is_among (length l) entry) images ∙ n.among);
+        lines_are = ap length lines ∙ omega (arith, length-append old.lines.items (Rec entry ∷ []), s.lines_are, p.samples, n.kept.samples, p.records, n.kept.records);
+      },
+      p.sizes ∙ n.kept.sizes,
+      whole,
+    )
 
 -- a sample was added
 pub sample_added : (old new : Body) (cpu pid pc : ℕ) (event : Event) → IsSound old → PushesSample old new cpu pid pc event → first_that_applies (value_tests (said_in_body old) (Sampled cpu pid pc event)) ≡ None
@@ -102,20 +105,23 @@ sample_added old new cpu pid pc event s p passes =
     let line = p.lines.0 in
     let lines : new.lines.items ≡ old.lines.items ++ line ∷ [] = p.lines.1 in
     let whole : said_in_body new ≡ said_in_body old ++ Sampled cpu pid pc event ∷ []
-        = (λ i. size_shown (p.sizes i) ∷ map (line_said (images i)) (lines i))
-          ∙ (λ i. size_shown old.sizes ∷ map-append (line_said old.images.items) old.lines.items (line ∷ []) i)
-          ∙ (λ i. size_shown old.sizes ∷ (map (line_said old.images.items) old.lines.items ++ p.lines.2 old.images.items i ∷ [])) in
-    let tracked = tracks_sample (said_in_body old) old.images.items old.samples old.records old.parts old.scans cpu pid pc event s.tracks passes in
-    (record {
-      tracks = subst (λ l. Tracks (said_in_body new) l new.samples new.records new.parts new.scans) (sym images)
-        (track_as (said_in_body old ++ Sampled cpu pid pc event ∷ []) (said_in_body new) old.images.items
-          (old.samples + 1) new.samples old.records new.records old.parts new.parts false new.scans
-          (sym whole) (sym p.samples) (sym p.records) (sym p.parts) (sym p.scans) tracked);
-      index = λ name. ap (λ m. get (slice_cmp nat_cmp) m name) p.index ∙ s.index name ∙ ap (λ l. index_from 0 l name) (sym images);
-      among = ap (list_all (line_is_among (length new.images.items))) lines ∙ all_push (line_is_among (length new.images.items)) old.lines.items line
-        ∙ and_from _ _ (ap (λ l. list_all (line_is_among (length l)) old.lines.items) images ∙ s.among) (p.lines.3 (length new.images.items));
-      lines_are = ap length lines ∙ omega (arith, length-append old.lines.items (line ∷ []), s.lines_are, p.samples, p.records);
-    }, p.sizes, whole)
+    = (λ i. size_shown (p.sizes i) ∷ map (line_said (images i)) (lines i))
+    ∙ (λ i. size_shown old.sizes ∷ map-append (line_said old.images.items) old.lines.items (line ∷ []) i)
+    ∙ (λ i. size_shown old.sizes ∷ (map (line_said old.images.items) old.lines.items ++ p.lines.2 old.images.items i ∷ [])) in
+    let tracked = tracks_sample (said_in_body old) old.images.items old.samples old.records old.parts old.scans cpu pid pc event s.tracks passes in (
+      record {
+        tracks = subst (λ l. Tracks (said_in_body new) l new.samples new.records new.parts new.scans) (sym images)
+            (track_as (said_in_body old ++ Sampled cpu pid pc event ∷ []) (said_in_body new) old.images.items
+            (old.samples + 1) new.samples old.records new.records old.parts new.parts false new.scans
+            (sym whole) (sym p.samples) (sym p.records) (sym p.parts) (sym p.scans) tracked);
+        index = λ name. ap (λ m. get (slice_cmp nat_cmp) m name) p.index ∙ s.index name ∙ ap (λ l. index_from 0 l name) (sym images);
+        among = ap (list_all (line_is_among (length new.images.items))) lines ∙ all_push (line_is_among (length new.images.items)) old.lines.items line
+            ∙ and_from _ _ (ap (λ l. list_all (line_is_among (length l)) old.lines.items) images ∙ s.among) (p.lines.3 (length new.images.items));
+        lines_are = ap length lines ∙ omega (arith, length-append old.lines.items (line ∷ []), s.lines_are, p.samples, p.records);
+      },
+      p.sizes,
+      whole,
+    )
 
 -- an image that is known has its index
 pub image_known : (b : Body) (name : List ℕ) (i : ℕ) → IsIndexed b → get (slice_cmp nat_cmp) b.index name ≡ Some i → NamesImage b b name i
@@ -138,10 +144,15 @@ image_new old new name i h none is sizes lines samples records parts scans image
     let fresh = absent 0 old.images.items name (sym (h.0 name) ∙ none) in
     record {
       kept = record {
-        sizes = sizes; lines = lines; samples = samples; records = records; parts = parts; scans = scans;
+        sizes = sizes;
+        lines = lines;
+        samples = samples;
+        records = records;
+        parts = parts;
+        scans = scans;
         index = λ q. tied_push old.images.items name (λ n. get (slice_cmp nat_cmp) old.index n) (λ n. get (slice_cmp nat_cmp) new.index n) h.0 fresh
-          (λ n. updated n ∙ ap (λ k. cond (is_eq (slice_cmp nat_cmp name n)) (Some k) (get (slice_cmp nat_cmp) old.index n)) is) q
-          ∙ ap (λ l. index_from 0 l q) (sym images);
+            (λ n. updated n ∙ ap (λ k. cond (is_eq (slice_cmp nat_cmp name n)) (Some k) (get (slice_cmp nat_cmp) old.index n)) is) q
+            ∙ ap (λ l. index_from 0 l q) (sym images);
       };
       images = images ∙ with_new old.images.items name fresh;
       within = omega (arith, is, ap length images, length-append old.images.items (name ∷ []));

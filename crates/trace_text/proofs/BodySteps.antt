@@ -73,7 +73,7 @@ module _ (before : List (Said ℕ)) (raw : Said (List ℕ)) where
     pub passing : true ≡ every is_aligned (tested said) → true ≡ every is_titled (tested said) → None ≡ first_that_applies (context_tests before said) → first_that_applies (value_tests before said) ≡ None
     passing a t c = subst (λ s. first_that_applies (value_tests before s) ≡ None) (sym read.1)
         (all_pass before raw read.0 (as_read (λ s. every is_aligned (tested s)) true a) (as_read (λ s. every is_titled (tested s)) true t)
-          (ap (λ s. first_that_applies (context_tests before s)) (sym read.1) ∙ sym c))
+        (ap (λ s. first_that_applies (context_tests before s)) (sym read.1) ∙ sym c))
 
 -- what is said against the values is what is said against their kind
 pub by_kind : (b : Body) (v w : BodyValues) (x : Option TraceWhy) → v ≡ w → x ≡ first_that_applies (context_tests (said_in_body b) (values_shown w)) → x ≡ first_that_applies (context_tests (said_in_body b) (values_shown v))

@@ -85,10 +85,12 @@ tied_push images x old new tied fresh updated q = ⊎_elim (λ same. here same) 
   where
     here : bytes_eq x q ≡ true → new q ≡ index_from 0 (images ++ x ∷ []) q
     here same = updated q ∙ ap (λ (b : Bool). cond b (Some (length images)) (old q)) (is_eq-slice_cmp x q ∙ same)
-      ∙ ap (λ (k : ℕ). Some k) {x = length images} {y = 0 + length images} (omega arith)
-      ∙ sym (push_same 0 images x fresh) ∙ ap (λ (n : List ℕ). index_from 0 (images ++ x ∷ []) n) (same_bytes x q same)
+        ∙ ap (λ (k : ℕ). Some k) {x = length images} {y = 0 + length images} (omega arith)
+        ∙ sym (push_same 0 images x fresh) ∙ ap (λ (n : List ℕ). index_from 0 (images ++ x ∷ []) n) (same_bytes x q same)
+
     flipped : bytes_eq x q ≡ false → bytes_eq q x ≡ false
     flipped other = ⊎_elim (λ e. absurd (false≢true (sym other ∙ bytes_same x q (sym (same_bytes q x e))))) (λ e. e) (cases_Bool (bytes_eq q x))
+
     there : bytes_eq x q ≡ false → new q ≡ index_from 0 (images ++ x ∷ []) q
     there other = updated q ∙ ap (λ (b : Bool). cond b (Some (length images)) (old q)) (is_eq-slice_cmp x q ∙ other) ∙ tied q ∙ sym (push_other 0 images x q (flipped other))
 

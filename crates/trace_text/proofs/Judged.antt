@@ -56,10 +56,13 @@ outcome spelled within aligned titled rest =
 module _ (before : List (Said ℕ)) (raw : Said (List ℕ)) where
   abbrev spelled : Bool
   spelled = every is_spelled (tested raw)
+
   abbrev within : Bool
   within = every is_within (tested (values_of raw))
+
   abbrev aligned : Bool
   aligned = every is_aligned (tested (values_of raw))
+
   abbrev titled : Bool
   titled = every is_titled (tested (values_of raw))
 

@@ -4,4 +4,7 @@ pub mod Cutting
 pub mod FieldValues
 pub mod Index
 pub mod Judged
+pub mod Phasing
+pub mod ScheduleSteps
 pub mod Tracking
+pub mod Walking

@@ -1,6 +1,7 @@
 pub mod Entries
 pub mod Forms
 pub mod Judging
+pub mod Phases
 pub mod Progress
 pub mod Refusing
 pub mod State

@@ -1,5 +1,5 @@
 -- When a trace is refused, and for what.
-use Rattle.std.specs.Prelude.{◌≡◌, ℕ, List}
+use Rattle.std.specs.Prelude.{◌≡◌, ℕ, List, IfSome}
 use Rattle.std.specs.declared.option.Option.{Option}
 use Rattle.std.specs.declared.result.Result.{Result}
 use Rattle.std.specs.declared.result.Result.TheVariants.{Ok, Err}
@@ -7,6 +7,7 @@ use Rattle.outside_io.specs.Causes.{Rose}
 use Rattle.line_reader.specs.declared.faults.LineFault.{LineFault}
 use Rattle.line_reader.specs.declared.faults.LineFault.TheVariants as faults
 use Rattle.trace_model.specs.Said.{Said}
+use Rattle.trace_model.specs.Grammar.{FirstBad}
 use Rattle.trace_text.specs.declared.refusals.LineRefusal.{LineRefusal}
 use Rattle.trace_text.specs.declared.refusals.LineRefusal.TheVariants as lines
 use Rattle.trace_text.specs.declared.refusals.TraceRefusal.{TraceRefusal}
@@ -38,8 +39,21 @@ IsLineFaultOnly (Err (Bad line why)) = ⊥
 IsLineFaultOnly (Err Memory) = Unit {0}
 
 -- where the reading stops at a bad line
+abbrev pub HaltsBy : Option (List ℕ) → List (Said ℕ) → ℕ → TraceRefusal → Type 0
+HaltsBy old before count (Bad line why) = Stops old before count line why
+HaltsBy old before count ReadFault = Unit {0}
+HaltsBy old before count Memory = Unit {0}
+
 abbrev pub Halts : {T : Type 0} → Option (List ℕ) → List (Said ℕ) → ℕ → Result T TraceRefusal → Type 0
 Halts old before count (Ok value) = Unit {0}
-Halts old before count (Err (Bad line why)) = Stops old before count line why
-Halts old before count (Err ReadFault) = Unit {0}
-Halts old before count (Err Memory) = Unit {0}
+Halts old before count (Err refusal) = HaltsBy old before count refusal
+
+-- a bad line that is answered is the first one, with its first reason
+abbrev pub IsFirstBadBy : Option (List ℕ) → TraceRefusal → Type 0
+IsFirstBadBy input (Bad line why) = IfSome input (λ bytes. FirstBad bytes line why)
+IsFirstBadBy input ReadFault = Unit {0}
+IsFirstBadBy input Memory = Unit {0}
+
+abbrev pub IsFirstBadOf : {T : Type 0} → Option (List ℕ) → Result T TraceRefusal → Type 0
+IsFirstBadOf input (Ok value) = Unit {0}
+IsFirstBadOf input (Err refusal) = IsFirstBadBy input refusal

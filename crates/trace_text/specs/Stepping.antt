@@ -1,4 +1,4 @@
--- What is judged of a line of the schedule.
+-- What is judged of a header and of a line of the schedule.
 use Rattle.std.specs.Prelude.{◌≡◌, ℕ, nat_le, if◌then◌else◌}
 use Rattle.std.specs.declared.option.Option.{Option}
 use Rattle.std.specs.declared.option.Option.TheVariants.{Some, None}
@@ -10,6 +10,13 @@ use Rattle.trace_model.specs.declared.notices.Step.{Step}
 use Rattle.trace_model.specs.declared.notices.Step.TheVariants.{Lane, Poll, Advance}
 use Rattle.trace_model.specs.Said.{Said}
 use Rattle.trace_model.specs.Recording.{step_said}
+use Rattle.trace_text.specs.declared.headers.Sizes.{Sizes}
+use Rattle.trace_text.specs.Judging.{size_shown}
+
+-- what is judged of a header
+abbrev pub IsSized : Result Sizes TraceWhy → Result (Said ℕ) TraceWhy → Type 0
+IsSized (Ok sizes) judged = judged ≡ Ok (size_shown sizes)
+IsSized (Err why) judged = judged ≡ Err why
 
 abbrev pub IsJudgedStep : Result Step TraceWhy → Result (Said ℕ) TraceWhy → Type 0
 IsJudgedStep (Ok step) judged = judged ≡ Ok (step_said step)

@@ -352,13 +352,37 @@ pub fn is_aligned(values: &BodyValues<'_>) -> bool
     ensures { result ≡ every is_aligned (tested (values_shown values.now)) }
 {
     match values {
-        BodyValues::Sample { cpu: _, pid: _, pc, event: _ } => *pc % 4 == 0,
-        BodyValues::Scan { pid: _, base, size, image: _ } => (*base % 4 == 0 && *size % 4 == 0) && true,
-        BodyValues::Load { pid: _, base, size, image: _ } => (*base % 4 == 0 && *size % 4 == 0) && true,
+        BodyValues::Sample {
+            cpu: _,
+            pid: _,
+            pc,
+            event: _,
+        } => *pc % 4 == 0,
+        BodyValues::Scan {
+            pid: _,
+            base,
+            size,
+            image: _,
+        } => (*base % 4 == 0 && *size % 4 == 0) && true,
+        BodyValues::Load {
+            pid: _,
+            base,
+            size,
+            image: _,
+        } => (*base % 4 == 0 && *size % 4 == 0) && true,
         BodyValues::Unload { pid: _, base, size } => *base % 4 == 0 && *size % 4 == 0,
-        BodyValues::Exec { pid: _, base, size, image: _ } => (*base % 4 == 0 && *size % 4 == 0) && true,
+        BodyValues::Exec {
+            pid: _,
+            base,
+            size,
+            image: _,
+        } => (*base % 4 == 0 && *size % 4 == 0) && true,
         BodyValues::Exit { .. } => true,
-        BodyValues::Kernel { base, size, image: _ } => (*base % 4 == 0 && *size % 4 == 0) && true,
+        BodyValues::Kernel {
+            base,
+            size,
+            image: _,
+        } => (*base % 4 == 0 && *size % 4 == 0) && true,
         BodyValues::Drain => true,
         BodyValues::Merge => true,
         BodyValues::Epoch => true,
@@ -372,12 +396,31 @@ pub fn is_titled(values: &BodyValues<'_>) -> bool
 {
     match values {
         BodyValues::Sample { .. } => true,
-        BodyValues::Scan { pid: _, base: _, size: _, image } => is_name(image),
-        BodyValues::Load { pid: _, base: _, size: _, image } => is_name(image),
+        BodyValues::Scan {
+            pid: _,
+            base: _,
+            size: _,
+            image,
+        } => is_name(image),
+        BodyValues::Load {
+            pid: _,
+            base: _,
+            size: _,
+            image,
+        } => is_name(image),
         BodyValues::Unload { .. } => true,
-        BodyValues::Exec { pid: _, base: _, size: _, image } => is_name(image),
+        BodyValues::Exec {
+            pid: _,
+            base: _,
+            size: _,
+            image,
+        } => is_name(image),
         BodyValues::Exit { .. } => true,
-        BodyValues::Kernel { base: _, size: _, image } => is_name(image),
+        BodyValues::Kernel {
+            base: _,
+            size: _,
+            image,
+        } => is_name(image),
         BodyValues::Drain => true,
         BodyValues::Merge => true,
         BodyValues::Epoch => true,

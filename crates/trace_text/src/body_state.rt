@@ -5,18 +5,22 @@ ghost use Rattle.std.specs.BTreeMap.{get};
 ghost use Rattle.trace_model.specs.Grammar.{verdict, verdict_on, value_tests, context_tests, first_that_applies};
 ghost use Rattle.trace_text.specs.Entries.{entry_ends_part, entry_may_precede_scan};
 
-use crate::body::{BodyForm, BodyValues, body_form, is_aligned, is_spelled, is_titled, read_values};
+use crate::body::{
+    BodyForm, BodyValues, body_form, is_aligned, is_spelled, is_titled, read_values,
+};
 use crate::headers::Sizes;
 use crate::refusals::LineRefusal;
 use sample_key::{Event, Key};
 use std::alloc::{AllocError, Global};
 use std::collections::BTreeMap;
 use text_num::Name;
-use trace_model::{Line, Record, TraceWhy};
+use trace_model::{Line, Record, Step, Trace, TraceWhy};
 
 /// The most samples, records and records that end a part that a trace has.
 const MOST_SAMPLES: u64 = 2_000_000;
+
 const MOST_RECORDS: u64 = 65_536;
+
 const MOST_PARTS: u64 = 1_024;
 
 /// The sizes and the body of a trace, as far as it was read.
@@ -40,7 +44,9 @@ pub enum Taken {
 }
 
 impl Body {
-    ghost use Rattle.trace_text.specs.State.{IsSound, said_in_body};
+    ghost use Rattle.trace_text.specs.State.{IsSound, AreSteps, said_in_body, said_with_steps};
+    ghost use Rattle.trace_model.specs.Recording.{said_in, images_in_order};
+    ghost use Rattle.trace_model.specs.Traces.{recording_of};
     ghost use Rattle.trace_text.specs.Progress.{IsRefusal};
     ghost use Rattle.trace_text.specs.Forms.{body_shown, values_shown};
     ghost use Rattle.trace_text.specs.Judging.{size_shown};
@@ -74,11 +80,29 @@ impl Body {
         ensures refused { IfErr result (IsRefusal (verdict (said_in_body self.old) line.now)) }
     {
         let Some(form) = body_form(line) else {
-            return Err(LineRefusal::Bad { why: TraceWhy::BadWord });
+            return Err(LineRefusal::Bad {
+                why: TraceWhy::BadWord,
+            });
         };
         let values = self.judge(&form)?;
         let taken = self.add(alloc, &values)?;
         Ok(taken)
+    }
+
+    /// The trace of this body and these steps.
+    pub fn into_trace(self, schedule: Vec<Step>) -> Trace
+        requires { AreSteps self schedule.items }
+        ensures said { said_in (recording_of result) ≡ said_with_steps self schedule.items }
+        ensures images { (recording_of result).images ≡ images_in_order (said_in (recording_of result)) }
+    {
+        Trace {
+            cpus: self.sizes.cpus,
+            buckets: self.sizes.buckets,
+            buffer: self.sizes.buffer,
+            images: self.images,
+            lines: self.lines,
+            schedule,
+        }
     }
 
     // What a line whose words are in order says, or the first reason why it is refused.
@@ -149,7 +173,11 @@ impl Body {
     fn against_record(&self) -> Option<TraceWhy>
         ensures { result ≡ (if nat_le 65536 self.now.records then Some TraceWhy.TooManyRecords else None) }
     {
-        if MOST_RECORDS <= self.records { Some(TraceWhy::TooManyRecords) } else { None }
+        if MOST_RECORDS <= self.records {
+            Some(TraceWhy::TooManyRecords)
+        } else {
+            None
+        }
     }
 
     fn against_part(&self) -> Option<TraceWhy>
@@ -171,7 +199,13 @@ impl Body {
         if let BodyValues::End = values {
             return Ok(Taken::End);
         }
-        if let BodyValues::Sample { cpu, pid, pc, event } = values {
+        if let BodyValues::Sample {
+            cpu,
+            pid,
+            pc,
+            event,
+        } = values
+        {
             self.push_sample(*cpu, *pid, *pc, *event)?;
             return Ok(Taken::Line);
         }
@@ -188,23 +222,61 @@ impl Body {
         ensures { IfOk result (Names self.old self.new (values_shown values.now)) }
     {
         match *values {
-            BodyValues::Scan { pid, base, size, image } => {
+            BodyValues::Scan {
+                pid,
+                base,
+                size,
+                image,
+            } => {
                 let image = self.image(alloc, image)?;
-                Ok(Record::Scan { pid, base, length: size, image })
+                Ok(Record::Scan {
+                    pid,
+                    base,
+                    length: size,
+                    image,
+                })
             }
-            BodyValues::Load { pid, base, size, image } => {
+            BodyValues::Load {
+                pid,
+                base,
+                size,
+                image,
+            } => {
                 let image = self.image(alloc, image)?;
-                Ok(Record::Load { pid, base, length: size, image })
+                Ok(Record::Load {
+                    pid,
+                    base,
+                    length: size,
+                    image,
+                })
             }
-            BodyValues::Unload { pid, base, size } => Ok(Record::Unload { pid, base, length: size }),
-            BodyValues::Exec { pid, base, size, image } => {
+            BodyValues::Unload { pid, base, size } => Ok(Record::Unload {
+                pid,
+                base,
+                length: size,
+            }),
+            BodyValues::Exec {
+                pid,
+                base,
+                size,
+                image,
+            } => {
                 let image = self.image(alloc, image)?;
-                Ok(Record::Exec { pid, base, length: size, image })
+                Ok(Record::Exec {
+                    pid,
+                    base,
+                    length: size,
+                    image,
+                })
             }
             BodyValues::Exit { pid } => Ok(Record::Exit { pid }),
             BodyValues::Kernel { base, size, image } => {
                 let image = self.image(alloc, image)?;
-                Ok(Record::Kernel { base, length: size, image })
+                Ok(Record::Kernel {
+                    base,
+                    length: size,
+                    image,
+                })
             }
             BodyValues::Drain => Ok(Record::Drain),
             BodyValues::Merge => Ok(Record::Merge),
@@ -278,7 +350,11 @@ fn index_of(index: &BTreeMap<Name, u32>, name: &Name) -> Option<u32>
 pub fn why_not_read(is_spelled: bool) -> TraceWhy
     ensures { result ≡ (if is_spelled then TraceWhy.OutOfRange else TraceWhy.BadNumber) }
 {
-    if is_spelled { TraceWhy::OutOfRange } else { TraceWhy::BadNumber }
+    if is_spelled {
+        TraceWhy::OutOfRange
+    } else {
+        TraceWhy::BadNumber
+    }
 }
 
 fn ends_part(entry: &Record) -> bool

@@ -1,12 +1,15 @@
-ghost use Rattle.std.specs.Prelude.{◌≡◌, ◌&&◌, [], ◌∷◌, if◌then◌else◌, Some, None};
+ghost use Rattle.std.specs.Prelude.{◌≡◌, ◌&&◌, [], ◌∷◌, if◌then◌else◌, Some, None, IfOk};
 ghost use Rattle.std.specs.Option.{option_map};
-ghost use Rattle.trace_model.specs.Grammar.{header_of, cut_at_spaces};
+ghost use Rattle.trace_model.specs.Grammar.{header_of, cut_at_spaces, verdict, value_tests, first_that_applies};
 ghost use Rattle.trace_model.specs.Said.{every, tested, is_spelled, values_of};
 ghost use Rattle.trace_text.specs.Forms.{header_shown, read_field};
 ghost use Rattle.trace_text.specs.Judging.{size_shown};
+ghost use Rattle.trace_text.specs.Stepping.{IsSized};
 
+use crate::body_state::why_not_read;
 use crate::fields::{Four, cut_four, decimal, table_size};
 use text_num::is_dec;
+use trace_model::TraceWhy;
 
 /// A header whose words are in order, with its number fields as they stand.
 #[derive(Clone, Copy)]
@@ -115,4 +118,18 @@ pub fn read_sizes(form: &HeaderForm<'_>) -> Option<Sizes>
             })
         }
     }
+}
+
+/// The sizes that a header gives, or the first reason why it is refused.
+pub fn sizes_of(line: &[u8]) -> Result<Sizes, TraceWhy>
+    ensures judged { IsSized result (verdict [] line.now) }
+    ensures passes { IfOk result (λ sizes. first_that_applies (value_tests [] (size_shown sizes)) ≡ None) }
+{
+    let Some(form) = header_form(line) else {
+        return Err(TraceWhy::NotHeader);
+    };
+    let Some(sizes) = read_sizes(&form) else {
+        return Err(why_not_read(is_spelled(&form)));
+    };
+    Ok(sizes)
 }

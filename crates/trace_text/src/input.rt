@@ -26,7 +26,11 @@ impl Input {
         ensures { IfOk result (λ input. (input.reader ≡ []) × (input.number ≡ 0)) }
     {
         let reader = LineReader::new(alloc)?;
-        Ok(Input { reader, line: Vec::new(alloc), number: 0 })
+        Ok(Input {
+            reader,
+            line: Vec::new(alloc),
+            number: 0,
+        })
     }
 
     /// Reads the next line.
@@ -46,7 +50,10 @@ impl Input {
     pub fn bad(&self, why: TraceWhy) -> TraceRefusal
         ensures { result ≡ TraceRefusal.Bad self.now.number why }
     {
-        TraceRefusal::Bad { line: self.number, why }
+        TraceRefusal::Bad {
+            line: self.number,
+            why,
+        }
     }
 
     /// The same, for a line that was not taken.

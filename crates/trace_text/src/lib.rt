@@ -3,13 +3,15 @@
 #![tactic(auto)]
 
 mod body;
+mod body_state;
 mod fields;
 mod headers;
 mod input;
 mod refusals;
-mod body_state;
 mod schedule;
 mod steps;
+mod traces;
 
 pub use refusals::TraceRefusal;
 pub use trace_model::{Line, Record, Step, Trace, TraceWhy};
+pub use traces::read_trace;

@@ -22,7 +22,9 @@ pub fn take_step(body: &Body, steps: &mut Vec<Step>, line: &[u8]) -> Result<(), 
     ensures refused { IfErr result (IsRefusal (verdict (said_with_steps body.now steps.old.items) line.now)) }
 {
     let Some(form) = step_form(line) else {
-        return Err(LineRefusal::Bad { why: TraceWhy::AfterEnd });
+        return Err(LineRefusal::Bad {
+            why: TraceWhy::AfterEnd,
+        });
     };
     let step = judge(body, steps, &form)?;
     steps.push(step)?;
@@ -68,5 +70,9 @@ fn against_cpu(cpus: u32, steps: usize, cpu: u32) -> Option<TraceWhy>
 fn against_number(steps: usize) -> Option<TraceWhy>
     ensures { result ≡ (if nat_le 4000000 steps then Some TraceWhy.TooManyRecords else None) }
 {
-    if MOST_STEPS <= steps { Some(TraceWhy::TooManyRecords) } else { None }
+    if MOST_STEPS <= steps {
+        Some(TraceWhy::TooManyRecords)
+    } else {
+        None
+    }
 }
