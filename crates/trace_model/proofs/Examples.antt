@@ -38,32 +38,46 @@ header = codes "dcpi-trace 1 cpus 1"
 -- the table of refusals
 other_version : refused NotHeader (codes "dcpi-trace 2 cpus 1" ∷ [])
 other_version = refl
+
 no_cpus : refused OutOfRange (codes "dcpi-trace 1 cpus 0" ∷ [])
 no_cpus = refl
+
 odd_table : refused OutOfRange (codes "dcpi-trace 1 cpus 1 buckets 3 buffer 8" ∷ [])
 odd_table = refl
+
 needless_zero : refused BadNumber (codes "dcpi-trace 1 cpus 01" ∷ [])
 needless_zero = refl
+
 sample_after_end : refused AfterEnd (header ∷ codes "end" ∷ codes "s 0 7 1000 cycles" ∷ [])
 sample_after_end = refl
+
 no_such_cpu : refused NoSuchCpu (header ∷ codes "s 1 7 1000 cycles" ∷ [])
 no_such_cpu = refl
+
 no_such_event : refused BadWord (header ∷ codes "s 0 7 1000 stalls" ∷ [])
 no_such_event = refl
+
 upper_case : refused BadNumber (header ∷ codes "s 0 7 100C cycles" ∷ [])
 upper_case = refl
+
 empty_mapping : refused OutOfRange (header ∷ codes "load 7 0 0 A" ∷ [])
 empty_mapping = refl
+
 highest_mapping : good (header ∷ codes "load 7 fffffffffffffff8 4 A" ∷ codes "end" ∷ []) (LongHeader 1 4096 8192 ∷ Loaded 7 18446744073709551608 4 (codes "A") ∷ Ended ∷ [])
 highest_mapping = refl
+
 mapping_past_the_end : refused OutOfRange (header ∷ codes "load 7 fffffffffffffff8 8 A" ∷ [])
 mapping_past_the_end = refl
+
 late_scan : refused ScanTooLate (header ∷ codes "drain" ∷ codes "scan 7 0 4 A" ∷ [])
 late_scan = refl
+
 fourth_cell : refused OutOfRange (header ∷ codes "end" ∷ codes "d 0 3" ∷ [])
 fourth_cell = refl
+
 unaligned : refused Unaligned (header ∷ codes "s 0 7 1002 cycles" ∷ [])
 unaligned = refl
+
 no_name : refused BadName (header ∷ codes "load 7 0 4 " ∷ [])
 no_name = refl
 
@@ -100,7 +114,7 @@ map_changed_since = refl
 -- exec takes the place of all mappings, the kernel stands behind them, and a process with none has none
 exec_kernel_stranger : spots_in (recording 1 4096 8192 (codes "vmunix" ∷ codes "old" ∷ codes "new" ∷ [])
     (Rec (Kernel 0xfffffc0000230000 0x10000 0) ∷ Rec (Load 7 0x120000000 0x1000 1) ∷ Rec (Exec 7 0x120000000 0x2000 2)
-      ∷ sample 7 0x120000010 Cycles refl ∷ sample 7 0xfffffc0000230020 Cycles refl ∷ sample 9 0x120000010 Cycles refl ∷ []) []) 0
+    ∷ sample 7 0x120000010 Cycles refl ∷ sample 7 0xfffffc0000230020 Cycles refl ∷ sample 9 0x120000010 Cycles refl ∷ []) []) 0
     ≡ Known 0 (codes "new") Cycles 0x10 ∷ Known 0 (codes "vmunix") Cycles 0x20 ∷ Unknown 0 Cycles 0x120000010 ∷ []
 exec_kernel_stranger = refl
 

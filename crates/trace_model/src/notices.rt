@@ -6,17 +6,42 @@ use sample_key::Key;
 #[derive(Clone, Copy, Debug, PartialEq, Eq)]
 pub enum Record {
     /// A mapping that was found at startup.
-    Scan { pid: u32, base: u64, length: u64, image: u32 },
+    Scan {
+        pid: u32,
+        base: u64,
+        length: u64,
+        image: u32,
+    },
     /// A mapping that the loader made.
-    Load { pid: u32, base: u64, length: u64, image: u32 },
+    Load {
+        pid: u32,
+        base: u64,
+        length: u64,
+        image: u32,
+    },
     /// A range is no longer mapped.
-    Unload { pid: u32, base: u64, length: u64 },
+    Unload {
+        pid: u32,
+        base: u64,
+        length: u64,
+    },
     /// The process has this mapping alone.
-    Exec { pid: u32, base: u64, length: u64, image: u32 },
+    Exec {
+        pid: u32,
+        base: u64,
+        length: u64,
+        image: u32,
+    },
     /// The process has no mapping.
-    Exit { pid: u32 },
+    Exit {
+        pid: u32,
+    },
     /// A mapping of the kernel, which each process has behind its own.
-    Kernel { base: u64, length: u64, image: u32 },
+    Kernel {
+        base: u64,
+        length: u64,
+        image: u32,
+    },
     /// A complete flush is asked for.
     Drain,
     /// What was gathered is committed.
