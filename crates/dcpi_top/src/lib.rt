@@ -1,0 +1,14 @@
+//! The top call of the program: the command that the words name, its text on the output, and its status with one line on
+//! the error output. Nothing else is written.
+#![tactic(auto)]
+
+mod answering;
+mod commands;
+mod messages;
+mod plains;
+
+pub use answering::dcpi_still;
+pub use commands::{Command, words_of};
+pub use direct_counts::{counts_text, plain_counts};
+pub use plains::plain;
+pub use trace_text::TraceRefusal;
