@@ -15,6 +15,18 @@ pub struct Key {
     pub ghost aligned: { pc % 4 ≡ 0 },
 }
 
+impl Key {
+    ghost use Rattle.std.specs.Prelude.{◌≡◌};
+    ghost use Rattle.sample_key.specs.Bags.{same_key};
+
+    /// Whether both are one key: the same process, program counter and event.
+    pub fn same(&self, other: &Key) -> bool
+        ensures { result ≡ same_key self.now other.now }
+    {
+        self.pid == other.pid && self.pc == other.pc && self.event.code() == other.event.code()
+    }
+}
+
 /// A sample with its mark: the number of records that stand before it in the trace.
 #[derive(Clone, Copy, Debug, PartialEq, Eq)]
 pub struct Marked {

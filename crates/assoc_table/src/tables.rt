@@ -1,0 +1,113 @@
+ghost use Rattle.std.specs.Prelude.{◌≡◌, ℕ, ◌+◌, ◌<◌, ◌≤◌, ◌++◌, List, length, vec_len, vec_capacity, IfOk, OnOk, OnErr};
+ghost use Rattle.sample_key.specs.Counted.{Counted};
+ghost use Rattle.driver_model.specs.Table.{bucket_of, add, needs_room, empty_table, cleared, entries_in};
+
+use crate::buckets::Bucket;
+use driver_model::Added;
+use sample_key::{Body, Entry, Key};
+use std::alloc::{AllocError, Global};
+use std::marker::Model;
+
+/// A table of 1 to 4,096 buckets of four ways, with the index of the way to replace next, 0 to 3.
+#[derive(Drop)]
+pub struct AssocTable {
+    rows: Vec<Bucket>,
+    turn: usize,
+}
+
+impl Model for AssocTable {
+    ghost use Rattle.std.specs.Prelude.{◌<◌, ◌≤◌, length};
+    ghost use Rattle.driver_model.specs.Table.{Table};
+
+    ghost Value = { Table };
+
+    ghost view = { λ t. record { rows = t.rows.items; turn = t.turn } };
+
+    ghost invariant = { λ t. (1 ≤ length t.rows.items) × (length t.rows.items ≤ 4096) × (t.turn < 4) };
+}
+
+// The bucket of a key among so many.
+fn bucket(buckets: usize, key: &Key) -> usize
+    requires { 1 ≤ buckets }
+    ensures place { result ≡ bucket_of buckets key.now }
+    ensures within { result < buckets }
+{
+    let Key { pid, pc, event } = *key;
+    let mixed = pc / 4 + 7 * u64::from(pid) + u64::from(event.code());
+    mixed as usize % buckets
+}
+
+impl AssocTable {
+    /// An empty table of so many buckets, 1 to 4,096, with the turn 0.
+    pub fn new(alloc: Global, buckets: usize) -> Result<AssocTable, AllocError>
+        requires some { 1 ≤ buckets }
+        requires few { buckets ≤ 4096 }
+        ensures { IfOk result (λ t. t ≡ empty_table buckets 0) }
+    {
+        let mut rows = Vec::with_capacity(alloc, buckets)?;
+        for _ in 0..buckets {
+            rows.push(Bucket::new())?;
+        }
+        Ok(AssocTable { rows, turn: 0 })
+    }
+
+    /// Whether adding the key would give an entry out: its entry is full, or it has none and its bucket is full.
+    pub fn needs_room(&self, key: &Key) -> bool
+        ensures { result ≡ needs_room self.now key.now }
+    {
+        let row = &self.rows[bucket(self.rows.len(), key)];
+        row.needs_room(key, self.turn)
+    }
+
+    /// Adds a sample of the key: its entry's count rises or is given out at 65,535; or it takes a free way; or it takes
+    /// the way whose turn it is, and that entry is given out.
+    pub fn add(&mut self, key: Key) -> Added
+        ensures table { self.new ≡ (add self.old key).table }
+        ensures added { result ≡ (add self.old key).added }
+    {
+        let at = bucket(self.rows.len(), &key);
+        let row = &mut self.rows[at];
+        row.add(key, &mut self.turn)
+    }
+
+    /// Takes all entries away; the turn stays.
+    pub fn clear(&mut self)
+        ensures { self.new ≡ cleared self.old }
+    {
+        for row in self.rows.iter_mut() {
+            row.clear();
+        }
+    }
+
+    // Appends the entries; after a refusal some of them may be there.
+    fn copy_rows(&self, out: &mut Vec<Entry>) -> Result<(), AllocError>
+        ensures ok { OnOk result (out.new.items ≡ out.old.items ++ entries_in self.now) }
+        ensures kept { (more : List Counted) × (out.new.items ≡ out.old.items ++ more) }
+        ensures full { OnErr result (vec_capacity out.old < vec_len out.old + length (entries_in self.now)) }
+        ensures capacity { vec_capacity out.old ≤ vec_capacity out.new }
+    {
+        for row in &self.rows {
+            out.extend_from_slice(row.entries())?;
+        }
+        Ok(())
+    }
+}
+
+impl Body for AssocTable {
+    ghost entries = { entries_in };
+
+    fn copy_to(&self, out: &mut Vec<Entry>) -> Result<(), AllocError> {
+        let before = out.len();
+        match self.copy_rows(out) {
+            Ok(()) => Ok(()),
+            Err(refused) => {
+                out.truncate(before);
+                Err(refused)
+            }
+        }
+    }
+
+    fn clear(&mut self) {
+        AssocTable::clear(self);
+    }
+}

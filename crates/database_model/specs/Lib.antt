@@ -1,0 +1,5 @@
+pub mod Runs
+pub mod Ranges
+pub mod ProfileForm
+pub mod SegmentForm
+pub mod Tally

@@ -1,0 +1,381 @@
+use Rattle.std.proofs.Common.{◌≡◌, ℕ, ◌+◌, ◌/◌, ◌<◌, ◌≤◌, List, [], ◌∷◌, length, drop, refl, sym, ◌∙◌, ap, subst, arith, true, false, Some, None, Option, eqb, ◌&&◌}
+use Rattle.std.specs.Prelude.{is_some, IfSome, IsSomeAnd, slice_get}
+use Rattle.sample_key.specs.Bags.{weight}
+use Rattle.sample_key.specs.Counted.{Counted}
+use Rattle.sample_key.specs.Marks.{IsRising}
+use Rattle.sample_key.specs.Sent.{Sent}
+use Rattle.sample_key.specs.declared.keys.Marked.{Marked}
+use Rattle.sample_key.specs.declared.losses.Loss.{Loss}
+use Rattle.driver_model.specs.Lists.{AllOf}
+use Rattle.driver_model.specs.Table.{Table, IsTable, empty_table, add, given_out, needs_room}
+use Rattle.driver_model.specs.Sides.{Side, is_even, side_hear, side_look_table, side_look_buffer}
+use Rattle.driver_model.specs.Driver.{Setup, Driver, take_next, activate}
+use Rattle.driver_model.specs.Invariant.{IsConserved, LossesInOrder, table_entries, active_entries}
+use Rattle.driver_laws.proofs.Lists.{each_map, all_map, all_any}
+use Rattle.driver_laws.proofs.Weights.{times_next}
+use Rattle.driver_laws.proofs.Adds.{out_weight, add_weighs, add_grows}
+use Rattle.driver_laws.proofs.Tables.{table_kept, table_empty, empty_entries}
+use Rattle.driver_laws.proofs.Marks.{due_later, due_next}
+use Rattle.driver_laws.proofs.Loose.{Loose}
+use Rattle.driver_laws.proofs.Parts.{exact_same, bounded_from, out_count, tally_all, tally_placed, tally_written, out_none}
+
+-- the small changes of a turn that take no sample, each of which keeps the invariant
+
+-- the bell was heard
+pub kept_hear : (tables : List Sent) (least most : ℕ) (u : Setup) (d : Driver) (v : Side) (w : ℕ) → v.heard ≤ w → Loose tables least most u d v → Loose tables least most u d (side_hear v w)
+kept_hear tables least most u d v w h i = record {
+  conserved = i.conserved;
+  flushes = i.flushes;
+  bounded = i.bounded;
+  order0 = i.order0;
+  order1 = i.order1;
+  order2 = i.order2;
+  sizes0 = i.sizes0;
+  sizes1 = i.sizes1;
+  fits = i.fits;
+  explained = i.explained;
+  holds0 = i.holds0;
+  holds1 = i.holds1;
+  holds2 = i.holds2;
+  table = i.table;
+  active = i.active;
+  buckets = i.buckets;
+  buffer = i.buffer;
+  turn = i.turn;
+  number = i.number;
+  next = i.next;
+  hands0 = i.hands0;
+  hands1 = i.hands1;
+  hands2 = i.hands2;
+  at = omega (arith, i.at, due_later u.samples (v.heard / 2) (w / 2) (omega arith));
+  upto0 = i.upto0;
+  upto1 = i.upto1;
+  upto2 = i.upto2;
+  in_order = i.in_order;
+  rise = i.rise;
+  last = i.last;
+  heard = omega (arith, i.heard);
+  placed = i.placed;
+  written = i.written;
+  all = i.all;
+  exact = exact_same u d (d) v (side_hear v w) u.pace refl refl i.exact;
+  going = i.going;
+  answered = i.answered;
+}
+
+-- the table is back
+pub kept_table_back : (tables : List Sent) (least most : ℕ) (u : Setup) (d : Driver) (v : Side) (word : ℕ) → d.table ≡ None → is_even word ≡ true → Loose tables least most u d v
+    → Loose tables least most u (record d { table = Some (empty_table v.buckets v.turn) }) (side_look_table v word)
+kept_table_back tables least most u d v word none even i = record {
+  conserved = λ k. omega (arith, i.conserved k, ap (λ (z : Option Table). weight k (table_entries z)) none, ap (λ (z : List Counted). weight k z) (empty_entries v.buckets v.turn));
+  flushes = i.flushes;
+  bounded = i.bounded;
+  order0 = i.order0;
+  order1 = i.order1;
+  order2 = i.order2;
+  sizes0 = i.sizes0;
+  sizes1 = i.sizes1;
+  fits = i.fits;
+  explained = i.explained;
+  holds0 = i.holds0;
+  holds1 = i.holds1;
+  holds2 = even;
+  table = table_empty v.buckets v.turn i.turn;
+  active = i.active;
+  buckets = i.buckets;
+  buffer = i.buffer;
+  turn = i.turn;
+  number = i.number;
+  next = i.next;
+  hands0 = i.hands0;
+  hands1 = i.hands1;
+  hands2 = i.hands2;
+  at = i.at;
+  upto0 = i.upto0;
+  upto1 = i.upto1;
+  upto2 = i.upto2;
+  in_order = i.in_order;
+  rise = i.rise;
+  last = i.last;
+  heard = i.heard;
+  placed = omega (arith, i.placed, ap (λ (z : Option Table). length (table_entries z)) none, ap (λ (z : List Counted). length z) (empty_entries v.buckets v.turn));
+  written = i.written;
+  all = i.all;
+  exact = exact_same u d (record d { table = Some (empty_table v.buckets v.turn) }) v (side_look_table v word) u.pace refl refl i.exact;
+  going = i.going;
+  answered = i.answered;
+}
+
+-- the table is out
+pub kept_table_out : (tables : List Sent) (least most : ℕ) (u : Setup) (d : Driver) (v : Side) (word : ℕ) → d.table ≡ None → is_even word ≡ false → Loose tables least most u d v → Loose tables least most u d (side_look_table v word)
+kept_table_out tables least most u d v word none odd i = record {
+  conserved = i.conserved;
+  flushes = i.flushes;
+  bounded = i.bounded;
+  order0 = i.order0;
+  order1 = i.order1;
+  order2 = i.order2;
+  sizes0 = i.sizes0;
+  sizes1 = i.sizes1;
+  fits = i.fits;
+  explained = i.explained;
+  holds0 = i.holds0;
+  holds1 = i.holds1;
+  holds2 = odd ∙ sym (ap (λ (z : Option Table). is_some z) none);
+  table = i.table;
+  active = i.active;
+  buckets = i.buckets;
+  buffer = i.buffer;
+  turn = i.turn;
+  number = i.number;
+  next = i.next;
+  hands0 = i.hands0;
+  hands1 = i.hands1;
+  hands2 = i.hands2;
+  at = i.at;
+  upto0 = i.upto0;
+  upto1 = i.upto1;
+  upto2 = i.upto2;
+  in_order = i.in_order;
+  rise = i.rise;
+  last = i.last;
+  heard = i.heard;
+  placed = i.placed;
+  written = i.written;
+  all = i.all;
+  exact = exact_same u d (d) v (side_look_table v word) u.pace refl refl i.exact;
+  going = i.going;
+  answered = i.answered;
+}
+
+-- losses are in order also when more was taken
+pub losses_later : (u : Setup) (d : Driver) (n : ℕ) → d.at ≤ n → LossesInOrder u d → LossesInOrder u (record d { at = n })
+losses_later u d n l h = each_map
+    (λ done m. (m.index < d.at) × AllOf (λ o. o.index < m.index) done × IsSomeAnd (slice_get u.samples m.index) (λ s. m.event ≡ s.key.event))
+    (λ done m. (m.index < n) × AllOf (λ o. o.index < m.index) done × IsSomeAnd (slice_get u.samples m.index) (λ s. m.event ≡ s.key.event))
+    (λ m. Unit {0}) (λ done m r g. (omega (arith, g.0), g.1, g.2)) [] d.losses (all_any (λ (m : Loss). Unit {0}) (λ m. tt) d.losses) h
+
+-- the table counted a sample
+pub kept_counted : (tables : List Sent) (least most : ℕ) (u : Setup) (d : Driver) (v : Side) (t : Table) (s : Marked) (rest : List Marked) → IsRising u.samples → d.table ≡ Some t → needs_room t s.key ≡ false
+    → drop d.at u.samples ≡ s ∷ rest → s.mark ≤ v.heard / 2 → Loose tables least most u d v → Loose tables least most u (take_next d s.key (Some t)) v
+kept_counted tables least most u d v t s rest rising held room left mark i =
+    let k = s.key in
+    let is : IsTable v.buckets t = subst (λ (z : Option Table). IfSome z (IsTable v.buckets)) held i.table in
+    let some : 0 < length t.rows = omega (arith, is.size, i.buckets) in
+    let out : given_out (add t k).added ≡ None = out_none (given_out (add t k).added) room in
+    let conserved : IsConserved u (take_next d k (Some t)) v =
+    λ j. omega (
+      arith,
+      i.conserved j,
+      ap (λ (z : Option Table). weight j (table_entries z)) held,
+      add_weighs j k t some is.ways,
+      ap (λ (z : Option Counted). out_weight j z) out,
+      times_next j d.at u.samples s rest left,
+    ) in
+    record {
+      conserved = conserved;
+      flushes = i.flushes;
+      bounded = bounded_from u (take_next d k (Some t)) v conserved (λ n j l. i.bounded n j (omega arith));
+      order0 = i.order0;
+      order1 = i.order1;
+      order2 = i.order2;
+      sizes0 = i.sizes0;
+      sizes1 = i.sizes1;
+      fits = i.fits;
+      explained = i.explained;
+      holds0 = i.holds0;
+      holds1 = i.holds1;
+      holds2 = i.holds2 ∙ ap (λ (z : Option Table). is_some z) held;
+      table = table_kept v.buckets k t i.buckets is;
+      active = i.active;
+      buckets = i.buckets;
+      buffer = i.buffer;
+      turn = i.turn;
+      number = i.number;
+      next = i.next;
+      hands0 = i.hands0;
+      hands1 = i.hands1;
+      hands2 = i.hands2;
+      at = due_next u.samples 0 d.at (v.heard / 2) s rest rising left mark;
+      upto0 = all_map (λ b. b.note.upto ≤ d.at) (λ b. b.note.upto ≤ d.at + 1) (λ b h. omega arith) v.first.handed i.upto0;
+      upto1 = all_map (λ b. b.note.upto ≤ d.at) (λ b. b.note.upto ≤ d.at + 1) (λ b h. omega arith) v.second.handed i.upto1;
+      upto2 = all_map (λ b. b.note.upto ≤ d.at) (λ b. b.note.upto ≤ d.at + 1) (λ b h. omega arith) v.third.handed i.upto2;
+      in_order = losses_later u d (d.at + 1) (omega arith) i.in_order;
+      rise = i.rise;
+      last = i.last;
+      heard = i.heard;
+      placed = omega (arith, i.placed, tally_placed d.stats (add t k).added, add_grows k t some, ap (λ (z : Option Table). length (table_entries z)) held);
+      written = omega (arith, i.written, tally_written d.stats (add t k).added, ap (λ (z : Option Counted). out_count z) out);
+      all = omega (arith, i.all, tally_all d.stats (Some (add t k).added));
+      exact = exact_same u d (take_next d k (Some t)) v (v) u.pace refl refl i.exact;
+      going = i.going;
+      answered = i.answered;
+    }
+
+-- buffer 0 is out
+pub kept_out0 : (tables : List Sent) (least most : ℕ) (u : Setup) (d : Driver) (v : Side) (word : ℕ) → d.pair.active ≡ None → is_even word ≡ false → Loose tables least most u d v → Loose tables least most u d (side_look_buffer v 0 word)
+kept_out0 tables least most u d v word none odd i = record {
+  conserved = i.conserved;
+  flushes = i.flushes;
+  bounded = i.bounded;
+  order0 = i.order0;
+  order1 = i.order1;
+  order2 = i.order2;
+  sizes0 = i.sizes0;
+  sizes1 = i.sizes1;
+  fits = i.fits;
+  explained = i.explained;
+  holds0 = odd ∙ sym (ap (λ (z : Option (List Counted)). is_some z && eqb d.pair.active_number 0) none);
+  holds1 = i.holds1;
+  holds2 = i.holds2;
+  table = i.table;
+  active = i.active;
+  buckets = i.buckets;
+  buffer = i.buffer;
+  turn = i.turn;
+  number = i.number;
+  next = i.next;
+  hands0 = i.hands0;
+  hands1 = i.hands1;
+  hands2 = i.hands2;
+  at = i.at;
+  upto0 = i.upto0;
+  upto1 = i.upto1;
+  upto2 = i.upto2;
+  in_order = i.in_order;
+  rise = i.rise;
+  last = i.last;
+  heard = i.heard;
+  placed = i.placed;
+  written = i.written;
+  all = i.all;
+  exact = exact_same u d (d) v (side_look_buffer v 0 word) u.pace refl refl i.exact;
+  going = i.going;
+  answered = i.answered;
+}
+
+-- buffer 0 is back and active
+pub kept_back0 : (tables : List Sent) (least most : ℕ) (u : Setup) (d : Driver) (v : Side) (word : ℕ) → d.pair.active ≡ None → is_even word ≡ true → Loose tables least most u d v → Loose tables 0 v.buffer u (activate d 0) (side_look_buffer v 0 word)
+kept_back0 tables least most u d v word none even i = record {
+  conserved = λ k. omega (arith, i.conserved k, ap (λ (z : Option (List Counted)). weight k (active_entries z)) none);
+  flushes = i.flushes;
+  bounded = i.bounded;
+  order0 = i.order0;
+  order1 = i.order1;
+  order2 = i.order2;
+  sizes0 = i.sizes0;
+  sizes1 = i.sizes1;
+  fits = i.fits;
+  explained = i.explained;
+  holds0 = even;
+  holds1 = i.holds1 ∙ ap (λ (z : Option (List Counted)). is_some z && eqb d.pair.active_number 1) none;
+  holds2 = i.holds2;
+  table = i.table;
+  active = (omega arith, omega (arith, i.buffer));
+  buckets = i.buckets;
+  buffer = i.buffer;
+  turn = i.turn;
+  number = omega arith;
+  next = i.next;
+  hands0 = i.hands0;
+  hands1 = i.hands1;
+  hands2 = i.hands2;
+  at = i.at;
+  upto0 = i.upto0;
+  upto1 = i.upto1;
+  upto2 = i.upto2;
+  in_order = i.in_order;
+  rise = i.rise;
+  last = i.last;
+  heard = i.heard;
+  placed = i.placed;
+  written = omega (arith, i.written, ap (λ (z : Option (List Counted)). length (active_entries z)) none);
+  all = i.all;
+  exact = exact_same u d (activate d 0) v (side_look_buffer v 0 word) u.pace refl refl i.exact;
+  going = i.going;
+  answered = i.answered;
+}
+
+-- buffer 1 is out
+pub kept_out1 : (tables : List Sent) (least most : ℕ) (u : Setup) (d : Driver) (v : Side) (word : ℕ) → d.pair.active ≡ None → is_even word ≡ false → Loose tables least most u d v → Loose tables least most u d (side_look_buffer v 1 word)
+kept_out1 tables least most u d v word none odd i = record {
+  conserved = i.conserved;
+  flushes = i.flushes;
+  bounded = i.bounded;
+  order0 = i.order0;
+  order1 = i.order1;
+  order2 = i.order2;
+  sizes0 = i.sizes0;
+  sizes1 = i.sizes1;
+  fits = i.fits;
+  explained = i.explained;
+  holds0 = i.holds0;
+  holds1 = odd ∙ sym (ap (λ (z : Option (List Counted)). is_some z && eqb d.pair.active_number 1) none);
+  holds2 = i.holds2;
+  table = i.table;
+  active = i.active;
+  buckets = i.buckets;
+  buffer = i.buffer;
+  turn = i.turn;
+  number = i.number;
+  next = i.next;
+  hands0 = i.hands0;
+  hands1 = i.hands1;
+  hands2 = i.hands2;
+  at = i.at;
+  upto0 = i.upto0;
+  upto1 = i.upto1;
+  upto2 = i.upto2;
+  in_order = i.in_order;
+  rise = i.rise;
+  last = i.last;
+  heard = i.heard;
+  placed = i.placed;
+  written = i.written;
+  all = i.all;
+  exact = exact_same u d (d) v (side_look_buffer v 1 word) u.pace refl refl i.exact;
+  going = i.going;
+  answered = i.answered;
+}
+
+-- buffer 1 is back and active
+pub kept_back1 : (tables : List Sent) (least most : ℕ) (u : Setup) (d : Driver) (v : Side) (word : ℕ) → d.pair.active ≡ None → is_even word ≡ true → Loose tables least most u d v → Loose tables 0 v.buffer u (activate d 1) (side_look_buffer v 1 word)
+kept_back1 tables least most u d v word none even i = record {
+  conserved = λ k. omega (arith, i.conserved k, ap (λ (z : Option (List Counted)). weight k (active_entries z)) none);
+  flushes = i.flushes;
+  bounded = i.bounded;
+  order0 = i.order0;
+  order1 = i.order1;
+  order2 = i.order2;
+  sizes0 = i.sizes0;
+  sizes1 = i.sizes1;
+  fits = i.fits;
+  explained = i.explained;
+  holds0 = i.holds0 ∙ ap (λ (z : Option (List Counted)). is_some z && eqb d.pair.active_number 0) none;
+  holds1 = even;
+  holds2 = i.holds2;
+  table = i.table;
+  active = (omega arith, omega (arith, i.buffer));
+  buckets = i.buckets;
+  buffer = i.buffer;
+  turn = i.turn;
+  number = omega arith;
+  next = i.next;
+  hands0 = i.hands0;
+  hands1 = i.hands1;
+  hands2 = i.hands2;
+  at = i.at;
+  upto0 = i.upto0;
+  upto1 = i.upto1;
+  upto2 = i.upto2;
+  in_order = i.in_order;
+  rise = i.rise;
+  last = i.last;
+  heard = i.heard;
+  placed = i.placed;
+  written = omega (arith, i.written, ap (λ (z : Option (List Counted)). length (active_entries z)) none);
+  all = i.all;
+  exact = exact_same u d (activate d 1) v (side_look_buffer v 1 word) u.pace refl refl i.exact;
+  going = i.going;
+  answered = i.answered;
+}

@@ -1,0 +1,16 @@
+pub mod Lists
+pub mod Weights
+pub mod Adds
+pub mod Tables
+pub mod Marks
+pub mod Loose
+pub mod Parts
+pub mod Changes
+pub mod Pushes
+pub mod Ends
+pub mod Steps
+pub mod Start
+pub mod Rooms
+pub mod Lefts
+pub mod Reasons
+pub mod Polls

@@ -1,0 +1,452 @@
+use Rattle.std.proofs.Common.{◌≡◌, ℕ, zero, suc, ◌+◌, ◌*◌, ◌/◌, ◌%◌, ◌<◌, ◌≤◌, List, [], ◌∷◌, ◌++◌, length, drop, refl, sym, ◌∙◌, ap, subst, arith, inl, inr, true, false, not, cond, Some, None, Option, leb, ltb, eqb, ◌&&◌, ◌||◌, leb-true, leb-false, ltb-true, ltb-false, eqb-true, eq-eqb}
+use Rattle.std.specs.Prelude.{is_some, IfSome}
+use Rattle.std.proofs.lemmas.Bool.{cond_both, cases_eq, both_ways, and_parts}
+use Rattle.sample_key.specs.Counted.{Counted}
+use Rattle.sample_key.specs.Marks.{due}
+use Rattle.sample_key.specs.Sent.{Sent}
+use Rattle.sample_key.specs.declared.keys.Key.{Key}
+use Rattle.sample_key.specs.declared.keys.Marked.{Marked}
+use Rattle.sample_key.specs.declared.losses.Pace.{Pace}
+use Rattle.sample_key.specs.declared.losses.Pace.TheVariants.{Free, Exact}
+use Rattle.driver_model.specs.Table.{Table, entries_in, empty_table}
+use Rattle.driver_model.specs.Sides.{Side, is_even, slot_looked, slot_handed, room_after, side_hear, side_look_table, side_look_buffer}
+use Rattle.driver_model.specs.Driver.{Two, Words, ends_with, regain, hand_active, answer_with, other, word_at, look_other, look_both, find_buffer, write, write_sample, take_sample, next_sample, after_regain, turn_of, Setup, Driver, World, Turned, take_next, to_write, needs_write, activate, pair_handed, buffer_header, table_header, hand_buffer, hand_table, lose, may_answer, answers_now}
+use Rattle.driver_model.specs.Invariant.{IsSetup, FullOrCut, CutBy, DriverInvariant}
+use Rattle.driver_model.specs.declared.answers.Turn.TheVariants.{Took, Held, Done}
+use Rattle.driver_laws.proofs.Lists.{all_map, some_push, some_last}
+use Rattle.driver_laws.proofs.Loose.{Loose, loose_of, strict_of}
+use Rattle.driver_laws.proofs.Changes.{kept_hear, kept_table_back, kept_table_out, kept_counted, kept_out0, kept_out1, kept_back0, kept_back1}
+use Rattle.driver_laws.proofs.Pushes.{kept_pushed, kept_direct, kept_hand0, kept_hand1}
+use Rattle.driver_laws.proofs.Ends.{kept_lost, closed_by}
+use Rattle.driver_laws.specs.Turns.{IsFair}
+
+-- a turn keeps the invariant: the small changes joined, as the definition of the turn joins them
+
+-- what a fact of one result becomes for a turn
+abbrev pub Keeps : Setup → Turned → Type 0
+Keeps u t = DriverInvariant u t.driver t.side
+
+-- by the number of a buffer
+by_number : (P : ℕ → Type 0) (n : ℕ) → n ≤ 1 → (n ≡ 0 → P 0) → (n ≡ 1 → P 1) → P n
+by_number P zero l f g = f refl
+by_number P (suc zero) l f g = g refl
+by_number P (suc (suc n)) l f g = absurd (omega arith)
+
+-- a short batch is cut by a table batch also when there is one more
+cut_later : (u : Setup) (x : Sent) (tables : List Sent) (cell : ℕ) (c : Sent) → FullOrCut cell u.size tables c → FullOrCut cell u.size (tables ++ x ∷ []) c
+cut_later u x tables cell c (some, few, inl full) = (some, few, inl full)
+cut_later u x tables cell c (some, few, inr cut) = (some, few, inr (some_push (CutBy cell c) tables x cut))
+
+-- one table batch more may cut
+widened : (tables : List Sent) (least most : ℕ) (u : Setup) (d : Driver) (v : Side) (x : Sent) → Loose tables least most u d v → Loose (tables ++ x ∷ []) least most u d v
+widened tables least most u d v x i = record {
+  conserved = i.conserved;
+  flushes = i.flushes;
+  bounded = i.bounded;
+  order0 = i.order0;
+  order1 = i.order1;
+  order2 = i.order2;
+  sizes0 = all_map (FullOrCut 0 u.size tables) (FullOrCut 0 u.size (tables ++ x ∷ [])) (cut_later u x tables 0) v.first.handed i.sizes0;
+  sizes1 = all_map (FullOrCut 1 u.size tables) (FullOrCut 1 u.size (tables ++ x ∷ [])) (cut_later u x tables 1) v.second.handed i.sizes1;
+  fits = i.fits;
+  explained = i.explained;
+  holds0 = i.holds0;
+  holds1 = i.holds1;
+  holds2 = i.holds2;
+  table = i.table;
+  active = i.active;
+  buckets = i.buckets;
+  buffer = i.buffer;
+  turn = i.turn;
+  number = i.number;
+  next = i.next;
+  hands0 = i.hands0;
+  hands1 = i.hands1;
+  hands2 = i.hands2;
+  at = i.at;
+  upto0 = i.upto0;
+  upto1 = i.upto1;
+  upto2 = i.upto2;
+  in_order = i.in_order;
+  rise = i.rise;
+  last = i.last;
+  heard = i.heard;
+  placed = i.placed;
+  written = i.written;
+  all = i.all;
+  exact = i.exact;
+  going = i.going;
+  answered = i.answered;
+}
+
+-- the active buffer is not full after all
+narrowed : (tables : List Sent) (least most fewer : ℕ) (u : Setup) (d : Driver) (v : Side)
+    → (IfSome d.pair.active (λ es. (least ≤ length es) × (length es < most)) → IfSome d.pair.active (λ es. (least ≤ length es) × (length es < fewer)))
+    → Loose tables least most u d v → Loose tables least fewer u d v
+narrowed tables least most fewer u d v within i = record {
+  conserved = i.conserved;
+  flushes = i.flushes;
+  bounded = i.bounded;
+  order0 = i.order0;
+  order1 = i.order1;
+  order2 = i.order2;
+  sizes0 = i.sizes0;
+  sizes1 = i.sizes1;
+  fits = i.fits;
+  explained = i.explained;
+  holds0 = i.holds0;
+  holds1 = i.holds1;
+  holds2 = i.holds2;
+  table = i.table;
+  active = within i.active;
+  buckets = i.buckets;
+  buffer = i.buffer;
+  turn = i.turn;
+  number = i.number;
+  next = i.next;
+  hands0 = i.hands0;
+  hands1 = i.hands1;
+  hands2 = i.hands2;
+  at = i.at;
+  upto0 = i.upto0;
+  upto1 = i.upto1;
+  upto2 = i.upto2;
+  in_order = i.in_order;
+  rise = i.rise;
+  last = i.last;
+  heard = i.heard;
+  placed = i.placed;
+  written = i.written;
+  all = i.all;
+  exact = i.exact;
+  going = i.going;
+  answered = i.answered;
+}
+
+loose_active : (n : ℕ) (a : Option (List Counted)) → IfSome a (λ es. (1 ≤ length es) × (length es < n)) → IfSome a (λ es. (0 ≤ length es) × (length es < n))
+loose_active n None h = tt
+loose_active n (Some es) h = (omega arith, h.1)
+
+-- the active buffer may be empty
+loosened : (tables : List Sent) (most : ℕ) (u : Setup) (d : Driver) (v : Side) → Loose tables 1 most u d v → Loose tables 0 most u d v
+loosened tables most u d v i = record {
+  conserved = i.conserved;
+  flushes = i.flushes;
+  bounded = i.bounded;
+  order0 = i.order0;
+  order1 = i.order1;
+  order2 = i.order2;
+  sizes0 = i.sizes0;
+  sizes1 = i.sizes1;
+  fits = i.fits;
+  explained = i.explained;
+  holds0 = i.holds0;
+  holds1 = i.holds1;
+  holds2 = i.holds2;
+  table = i.table;
+  active = loose_active most d.pair.active i.active;
+  buckets = i.buckets;
+  buffer = i.buffer;
+  turn = i.turn;
+  number = i.number;
+  next = i.next;
+  hands0 = i.hands0;
+  hands1 = i.hands1;
+  hands2 = i.hands2;
+  at = i.at;
+  upto0 = i.upto0;
+  upto1 = i.upto1;
+  upto2 = i.upto2;
+  in_order = i.in_order;
+  rise = i.rise;
+  last = i.last;
+  heard = i.heard;
+  placed = i.placed;
+  written = i.written;
+  all = i.all;
+  exact = i.exact;
+  going = i.going;
+  answered = i.answered;
+}
+
+-- the table was looked for where it was not held
+regain_kept : (u : Setup) (d : Driver) (v : Side) (word : ℕ) (o : Option Table) → d.table ≡ o → Loose v.third.handed 1 v.buffer u d v
+    → Loose v.third.handed 1 v.buffer u (regain d v word o).driver (regain d v word o).side
+regain_kept u d v word (Some t) e i = i
+regain_kept u d v word None e i =
+    cond_both (is_even word) (record d { table = Some (empty_table v.buckets v.turn) }) d
+    (λ (z : Driver). Loose v.third.handed 1 v.buffer u z (side_look_table v word))
+    (λ even. kept_table_back v.third.handed 1 v.buffer u d v word e even i)
+    (λ odd. kept_table_out v.third.handed 1 v.buffer u d v word e odd i)
+
+-- whether the driver may answer does not depend on its buffers
+may_same : (u : Setup) (d e : Driver) (w : ℕ) (p : Pace) → e.at ≡ d.at → may_answer u d w p ≡ true → may_answer u e w p ≡ true
+may_same u d e w Free same h = subst (λ (n : ℕ). (not (eqb w u.last) || leb (length u.samples) n) ≡ true) (sym same) h
+may_same u d e w Exact same h = subst (λ (n : ℕ). eqb (due (drop n u.samples) (w / 2)) 0 ≡ true) (sym same) h
+
+-- a flush is answered, by what is active
+answer_active : (u : Setup) (d : Driver) (v : Side) (w : ℕ) (t : Table) (a : Option (List Counted)) → IsSetup u → u.size ≡ v.buffer → d.pair.active ≡ a → d.table ≡ Some t
+    → w ≡ v.heard → w % 2 ≡ 1 → d.answered < w → may_answer u d w u.pace ≡ true → Loose v.third.handed 1 v.buffer u d v
+    → DriverInvariant u (hand_table u (hand_active u d v a).driver (hand_active u d v a).side w t).driver (hand_table u (hand_active u d v a).driver (hand_active u d v a).side w t).side
+answer_active u d v w t None setup size active held here odd above may i =
+    closed_by v.buffer u d v w t setup active held here odd above may
+    (widened v.third.handed 1 v.buffer u d v (record { note = table_header u d w; entries = entries_in t }) i)
+answer_active u d v w t (Some es) setup size active held here odd above may i =
+    let has : (1 ≤ length es) × (length es < v.buffer) = subst (λ (z : Option (List Counted)). IfSome z (λ es. (1 ≤ length es) × (length es < v.buffer))) active i.active in
+    by_number (λ (b : ℕ). DriverInvariant u (hand_table u (hand_buffer u d v b es).driver (hand_buffer u d v b es).side w t).driver (hand_table u (hand_buffer u d v b es).driver (hand_buffer u d v b es).side w t).side)
+    d.pair.active_number i.number
+    (λ number.
+    let d1 = (hand_buffer u d v 0 es).driver in let v1 = (hand_buffer u d v 0 es).side in
+    let x : Sent = record { note = table_header u d1 w; entries = entries_in t } in
+    closed_by v.buffer u d1 v1 w t setup refl held here odd above (may_same u d d1 w u.pace refl may)
+    (kept_hand0 v.third.handed (v.third.handed ++ x ∷ []) 1 v.buffer u d v es (λ cell c. cut_later u x v.third.handed cell c) active number has.0 (omega (arith, size, has.1))
+    (inr (some_last (CutBy 0 (record { note = buffer_header u d.at 0 (pair_handed d.pair 0); entries = es })) v.third.handed x (refl, refl))) i))
+    (λ number.
+    let d1 = (hand_buffer u d v 1 es).driver in let v1 = (hand_buffer u d v 1 es).side in
+    let x : Sent = record { note = table_header u d1 w; entries = entries_in t } in
+    closed_by v.buffer u d1 v1 w t setup refl held here odd above (may_same u d d1 w u.pace refl may)
+    (kept_hand1 v.third.handed (v.third.handed ++ x ∷ []) 1 v.buffer u d v es (λ cell c. cut_later u x v.third.handed cell c) active number has.0 (omega (arith, size, has.1))
+    (inr (some_last (CutBy 1 (record { note = buffer_header u d.at 1 (pair_handed d.pair 1); entries = es })) v.third.handed x (refl, refl))) i))
+
+-- a flush is answered
+answer_kept : (u : Setup) (d : Driver) (v : Side) (w : ℕ) (o : Option Table) → IsSetup u → u.size ≡ v.buffer → d.table ≡ o → w ≡ v.heard → answers_now u d w ≡ true
+    → Loose v.third.handed 1 v.buffer u d v → Keeps u (answer_with u (record { driver = d; side = v }) w o)
+answer_kept u d v w None setup size held here answers i = strict_of u d v i
+answer_kept u d v w (Some t) setup size held here answers i =
+    let p = and_parts (eqb (w % 2) 1 && ltb d.answered w && is_some d.table) (may_answer u d w u.pace) answers in
+    let q = and_parts (eqb (w % 2) 1 && ltb d.answered w) (is_some d.table) p.0 in
+    let r = and_parts (eqb (w % 2) 1) (ltb d.answered w) q.0 in
+    answer_active u d v w t d.pair.active setup size refl held here (eqb-true (w % 2) 1 r.0) (ltb-true d.answered w r.1) p.1 i
+
+-- the entry that was pushed did not fill the buffer, or it did
+push_kept : (u : Setup) (d : Driver) (v : Side) (k : Key) (full : List Counted) (o : Option Table) → u.size ≡ v.buffer → (take_next d k o).pair ≡ d.pair
+    → Loose v.third.handed 1 (v.buffer + 1) u (record (take_next d k o) { pair = record d.pair { active = Some full } }) v
+    → (b : ℕ) → b ≡ d.pair.active_number
+    → DriverInvariant u (cond (leb u.size (length full)) (hand_buffer u (record (take_next d k o) { pair = d.pair }) v b full)
+    (record { driver = record (take_next d k o) { pair = record d.pair { active = Some full } }; side = v })).driver
+    (cond (leb u.size (length full)) (hand_buffer u (record (take_next d k o) { pair = d.pair }) v b full)
+    (record { driver = record (take_next d k o) { pair = record d.pair { active = Some full } }; side = v })).side
+push_kept u d v k full o size same i b number =
+    let e : Driver = record (take_next d k o) { pair = record d.pair { active = Some full } } in
+    cond_both (leb u.size (length full)) (hand_buffer u (record (take_next d k o) { pair = d.pair }) v b full) (record { driver = e; side = v })
+    (λ (z : World). DriverInvariant u z.driver z.side)
+    (λ fills.
+    let long : u.size ≤ length full = leb-true u.size (length full) fills in
+    let short : length full < v.buffer + 1 = i.active.1 in
+    let exact : length full ≡ u.size = omega arith in
+    let low : d.pair.active_number ≤ 1 = i.number in
+    by_number (λ (n : ℕ). DriverInvariant u (hand_buffer u (record (take_next d k o) { pair = d.pair }) v n full).driver (hand_buffer u (record (take_next d k o) { pair = d.pair }) v n full).side)
+    b (omega (arith, number))
+    (λ zero_b. strict_of u (hand_buffer u e v 0 full).driver (hand_buffer u e v 0 full).side
+    (kept_hand0 v.third.handed v.third.handed 1 (v.buffer + 1) u e v full (λ cell c h. h) refl (sym number ∙ zero_b) i.active.0 (omega arith) (inl exact) i))
+    (λ one_b. strict_of u (hand_buffer u e v 1 full).driver (hand_buffer u e v 1 full).side
+    (kept_hand1 v.third.handed v.third.handed 1 (v.buffer + 1) u e v full (λ cell c h. h) refl (sym number ∙ one_b) i.active.0 (omega arith) (inl exact) i)))
+    (λ partly. strict_of u e v (narrowed v.third.handed 1 (v.buffer + 1) v.buffer u e v (λ h. (h.0, omega (arith, leb-false u.size (length full) partly))) i))
+
+-- the sample is written to the active buffer
+write_active : (u : Setup) (d : Driver) (v : Side) (s : Marked) (rest : List Marked) (es : List Counted) (o : Option Table) → IsSetup u → u.size ≡ v.buffer
+    → d.pair.active ≡ Some es → d.table ≡ o → needs_write s.key o ≡ true → drop d.at u.samples ≡ s ∷ rest → s.mark ≤ v.heard / 2
+    → Loose v.third.handed 0 v.buffer u d v
+    → DriverInvariant u (cond (leb u.size (length (es ++ to_write s.key o ∷ []))) (hand_buffer u (take_next d s.key o) v (take_next d s.key o).pair.active_number (es ++ to_write s.key o ∷ []))
+    (record { driver = record (take_next d s.key o) { pair = record (take_next d s.key o).pair { active = Some (es ++ to_write s.key o ∷ []) } }; side = v })).driver
+    (cond (leb u.size (length (es ++ to_write s.key o ∷ []))) (hand_buffer u (take_next d s.key o) v (take_next d s.key o).pair.active_number (es ++ to_write s.key o ∷ []))
+    (record { driver = record (take_next d s.key o) { pair = record (take_next d s.key o).pair { active = Some (es ++ to_write s.key o ∷ []) } }; side = v })).side
+write_active u d v s rest es (Some t) setup size active held needs left mark i =
+    let few : (0 ≤ length es) × (length es < v.buffer) = subst (λ (z : Option (List Counted)). IfSome z (λ es. (0 ≤ length es) × (length es < v.buffer))) active i.active in
+    push_kept u d v s.key (es ++ to_write s.key (Some t) ∷ []) (Some t) size refl
+    (kept_pushed v.third.handed 0 v.buffer u d v t es s rest setup.rising held needs active few.1 left mark i) d.pair.active_number refl
+write_active u d v s rest es None setup size active held needs left mark i =
+    let few : (0 ≤ length es) × (length es < v.buffer) = subst (λ (z : Option (List Counted)). IfSome z (λ es. (0 ≤ length es) × (length es < v.buffer))) active i.active in
+    push_kept u d v s.key (es ++ to_write s.key None ∷ []) None size refl
+    (kept_direct v.third.handed 0 v.buffer u d v es s rest setup.rising held active few.1 left mark i) d.pair.active_number refl
+
+-- no buffer is back: the sample is lost or held
+write_none : (u : Setup) (d : Driver) (v : Side) (s : Marked) (rest : List Marked) (p : Pace) → IsSetup u → u.pace ≡ p → drop d.at u.samples ≡ s ∷ rest → s.mark ≤ v.heard / 2
+    → v.first.read % 2 ≡ 1 → v.first.read + 1 ≡ 2 * length v.first.handed → v.second.read % 2 ≡ 1 → v.second.read + 1 ≡ 2 * length v.second.handed
+    → Loose v.third.handed 1 v.buffer u d v → Keeps u (write u (record { driver = d; side = v }) s.key p None)
+write_none u d v s rest Free setup pace left mark odd0 fair0 odd1 fair1 i =
+    strict_of u (lose (record { driver = d; side = v }) s.key).driver v
+    (kept_lost v.third.handed 1 v.buffer u d v s rest setup.rising pace left mark odd0 fair0 odd1 fair1 i)
+write_none u d v s rest Exact setup pace left mark odd0 fair0 odd1 fair1 i = strict_of u d v i
+
+-- an odd word is one
+odd_of : (w : ℕ) → is_even w ≡ false → w % 2 ≡ 1
+odd_of w h = elim (cases_eq (w % 2) 0) [ inl e ↦ absurd (both_ways (eqb (w % 2) 0) h (eq-eqb (w % 2) 0 e)) | inr e ↦ odd_here (w % 2) e (omega arith) ]
+  where
+    odd_here : (n : ℕ) → (n ≡ 0 → ⊥) → n < 2 → n ≡ 1
+    odd_here zero e l = absurd (e refl)
+    odd_here (suc zero) e l = refl
+    odd_here (suc (suc n)) e l = absurd (omega arith)
+
+-- what a turn that writes must keep, from where the buffers were looked for
+abbrev Writes : Setup → Key → World → Type 0
+Writes u k y = Keeps u (write u y k u.pace y.driver.pair.active)
+
+-- both buffers are looked at, buffer 0 first
+look_from0 : (u : Setup) (h : Two) (d : Driver) (v : Side) (s : Marked) (rest : List Marked) → IsSetup u → u.size ≡ v.buffer → IsFair v h → d.pair.active ≡ None
+    → needs_write s.key d.table ≡ true → drop d.at u.samples ≡ s ∷ rest → s.mark ≤ v.heard / 2 → Loose v.third.handed 1 v.buffer u d v → Writes u s.key (look_both h d v 0)
+look_from0 u h d v s rest setup size fair none needs left mark i =
+    cond_both (is_even h.first) (record { driver = activate d 0; side = side_look_buffer v 0 h.first }) (look_other h d (side_look_buffer v 0 h.first) 1)
+    (Writes u s.key)
+    (λ even. write_active u (activate d 0) (side_look_buffer v 0 h.first) s rest [] d.table setup size refl refl needs left mark
+    (kept_back0 v.third.handed 1 v.buffer u d v h.first none even i))
+    (λ odd0.
+    let v1 = side_look_buffer v 0 h.first in
+    let i1 : Loose v.third.handed 1 v.buffer u d v1 = kept_out0 v.third.handed 1 v.buffer u d v h.first none odd0 i in
+    cond_both (is_even h.second) (activate d 1) d
+    (λ (z : Driver). Writes u s.key (record { driver = z; side = side_look_buffer v1 1 h.second }))
+    (λ even. write_active u (activate d 1) (side_look_buffer v1 1 h.second) s rest [] d.table setup size refl refl needs left mark
+    (kept_back1 v.third.handed 1 v.buffer u d v1 h.second none even i1))
+    (λ odd1. subst (λ (a : Option (List Counted)). Keeps u (write u (record { driver = d; side = side_look_buffer v1 1 h.second }) s.key u.pace a)) (sym none)
+    (write_none u d (side_look_buffer v1 1 h.second) s rest u.pace setup refl left mark (odd_of h.first odd0) (fair.0 odd0) (odd_of h.second odd1) (fair.1 odd1)
+    (kept_out1 v.third.handed 1 v.buffer u d v1 h.second none odd1 i1))))
+
+-- both buffers are looked at, buffer 1 first
+look_from1 : (u : Setup) (h : Two) (d : Driver) (v : Side) (s : Marked) (rest : List Marked) → IsSetup u → u.size ≡ v.buffer → IsFair v h → d.pair.active ≡ None
+    → needs_write s.key d.table ≡ true → drop d.at u.samples ≡ s ∷ rest → s.mark ≤ v.heard / 2 → Loose v.third.handed 1 v.buffer u d v → Writes u s.key (look_both h d v 1)
+look_from1 u h d v s rest setup size fair none needs left mark i =
+    cond_both (is_even h.second) (record { driver = activate d 1; side = side_look_buffer v 1 h.second }) (look_other h d (side_look_buffer v 1 h.second) 0)
+    (Writes u s.key)
+    (λ even. write_active u (activate d 1) (side_look_buffer v 1 h.second) s rest [] d.table setup size refl refl needs left mark
+    (kept_back1 v.third.handed 1 v.buffer u d v h.second none even i))
+    (λ odd1.
+    let v1 = side_look_buffer v 1 h.second in
+    let i1 : Loose v.third.handed 1 v.buffer u d v1 = kept_out1 v.third.handed 1 v.buffer u d v h.second none odd1 i in
+    cond_both (is_even h.first) (activate d 0) d
+    (λ (z : Driver). Writes u s.key (record { driver = z; side = side_look_buffer v1 0 h.first }))
+    (λ even. write_active u (activate d 0) (side_look_buffer v1 0 h.first) s rest [] d.table setup size refl refl needs left mark
+    (kept_back0 v.third.handed 1 v.buffer u d v1 h.first none even i1))
+    (λ odd0. subst (λ (a : Option (List Counted)). Keeps u (write u (record { driver = d; side = side_look_buffer v1 0 h.first }) s.key u.pace a)) (sym none)
+    (write_none u d (side_look_buffer v1 0 h.first) s rest u.pace setup refl left mark (odd_of h.first odd0) (fair.0 odd0) (odd_of h.second odd1) (fair.1 odd1)
+    (kept_out0 v.third.handed 1 v.buffer u d v1 h.first none odd0 i1))))
+
+-- the sample needs a write, by what is active
+write_kept : (u : Setup) (h : Two) (d : Driver) (v : Side) (s : Marked) (rest : List Marked) (a : Option (List Counted)) → IsSetup u → u.size ≡ v.buffer → IsFair v h
+    → d.pair.active ≡ a → needs_write s.key d.table ≡ true → drop d.at u.samples ≡ s ∷ rest → s.mark ≤ v.heard / 2 → Loose v.third.handed 1 v.buffer u d v
+    → Writes u s.key (find_buffer h d v a)
+write_kept u h d v s rest (Some es) setup size fair active needs left mark i =
+    subst (λ (a : Option (List Counted)). Keeps u (write u (record { driver = d; side = v }) s.key u.pace a)) (sym active)
+    (write_active u d v s rest es d.table setup size active refl needs left mark (loosened v.third.handed v.buffer u d v i))
+write_kept u h d v s rest None setup size fair active needs left mark i =
+    by_number (λ (b : ℕ). Writes u s.key (look_both h d v b)) d.pair.next i.next
+    (λ e. look_from0 u h d v s rest setup size fair active needs left mark i)
+    (λ e. look_from1 u h d v s rest setup size fair active needs left mark i)
+
+-- the next sample is due, by where the table is
+sample_kept : (u : Setup) (h : Two) (d : Driver) (v : Side) (s : Marked) (rest : List Marked) (o : Option Table) → IsSetup u → u.size ≡ v.buffer → IsFair v h
+    → d.table ≡ o → drop d.at u.samples ≡ s ∷ rest → s.mark ≤ v.heard / 2 → Loose v.third.handed 1 v.buffer u d v
+    → needs_write s.key o ≡ false → Keeps u (ends_with (record { driver = take_next d s.key o; side = v }) Took)
+sample_kept u h d v s rest None setup size fair held left mark i needs = cc
+sample_kept u h d v s rest (Some t) setup size fair held left mark i needs =
+    strict_of u (take_next d s.key (Some t)) v (kept_counted v.third.handed 1 v.buffer u d v t s rest setup.rising held needs left mark i)
+
+-- the turn goes on with the samples that are left
+next_kept : (u : Setup) (h : Two) (w : ℕ) (d : Driver) (v : Side) (l : List Marked) → IsSetup u → u.size ≡ v.buffer → IsFair v h → w ≡ v.heard
+    → drop d.at u.samples ≡ l → Loose v.third.handed 1 v.buffer u d v → Keeps u (next_sample u h w (record { driver = d; side = v }) l)
+next_kept u h w d v [] setup size fair here left i = strict_of u d v i
+next_kept u h w d v (s ∷ rest) setup size fair here left i =
+    let x : World = record { driver = d; side = v } in
+    cond_both (ltb (w / 2) s.mark) (ends_with x Held) (take_sample u h x s.key) (Keeps u)
+    (λ later. strict_of u d v i)
+    (λ is_due.
+    let mark : s.mark ≤ v.heard / 2 = omega (arith, ltb-false (w / 2) s.mark is_due, ap (λ (n : ℕ). n / 2) here) in
+    cond_both (needs_write s.key d.table) (write_sample u h x s.key) (ends_with (record { driver = take_next d s.key d.table; side = v }) Took) (Keeps u)
+    (λ needs. write_kept u h d v s rest d.pair.active setup size fair refl needs left mark i)
+    (λ none. sample_kept u h d v s rest d.table setup size fair refl left mark i none))
+
+-- the turn goes on after the table was looked for
+after_kept : (u : Setup) (h : Words) (d : Driver) (v : Side) → IsSetup u → u.size ≡ v.buffer → IsFair v h.two → h.bell ≡ v.heard → Loose v.third.handed 1 v.buffer u d v
+    → Keeps u (after_regain u h (record { driver = d; side = v }))
+after_kept u h d v setup size fair here i =
+    let x : World = record { driver = d; side = v } in
+    cond_both (answers_now u d h.bell) (answer_with u x h.bell d.table) (next_sample u h.two h.bell x (drop d.at u.samples)) (Keeps u)
+    (λ answers. answer_kept u d v h.bell d.table setup size refl here answers i)
+    (λ none. next_kept u h.two h.bell d v (drop d.at u.samples) setup size fair here refl i)
+
+-- the turn goes on after the table was looked for, by where the table was
+regained_kept : (u : Setup) (h : Words) (d : Driver) (v : Side) (o : Option Table) → IsSetup u → u.size ≡ v.buffer → IsFair v h.two → h.bell ≡ v.heard → d.table ≡ o
+    → Loose v.third.handed 1 v.buffer u d v → Keeps u (after_regain u h (regain d v h.third o))
+regained_kept u h d v (Some t) setup size fair here held i = after_kept u h d v setup size fair here i
+regained_kept u h d v None setup size fair here held i =
+    after_kept u h (regain d v h.third None).driver (side_look_table v h.third) setup size fair here (regain_kept u d v h.third None held i)
+
+-- a turn keeps the invariant
+pub kept_turn : (u : Setup) (h : Words) (d : Driver) (v : Side) → IsSetup u → u.size ≡ v.buffer → IsFair v h.two → v.heard ≤ h.bell → DriverInvariant u d v
+    → Keeps u (turn_of u h (record { driver = d; side = v }))
+kept_turn u h d v setup size fair later i =
+    cond_both d.done (ends_with (record { driver = d; side = v }) Done) (after_regain u h (regain d (side_hear v h.bell) h.third d.table)) (Keeps u)
+    (λ done. i)
+    (λ going. regained_kept u h d (side_hear v h.bell) d.table setup size fair refl refl
+    (kept_hear v.third.handed 1 v.buffer u d v h.bell later (loose_of u d v i going)))
+
+-- how many calls one result made
+abbrev Within : Side → ℕ → Turned → Type 0
+Within v n t = t.side.steps ≤ v.steps + n
+
+hand_active_steps : (u : Setup) (d : Driver) (v : Side) (a : Option (List Counted)) → (hand_active u d v a).side.steps ≤ v.steps + 1
+hand_active_steps u d v None = omega arith
+hand_active_steps u d v (Some es) =
+    cond_both (eqb d.pair.active_number 0)
+    (record v { steps = v.steps + 1; first = slot_handed v.first (record { note = buffer_header u d.at d.pair.active_number (pair_handed d.pair d.pair.active_number); entries = es }); room = room_after v.room (record { note = buffer_header u d.at d.pair.active_number (pair_handed d.pair d.pair.active_number); entries = es }) })
+    (record v { steps = v.steps + 1; second = slot_handed v.second (record { note = buffer_header u d.at d.pair.active_number (pair_handed d.pair d.pair.active_number); entries = es }); room = room_after v.room (record { note = buffer_header u d.at d.pair.active_number (pair_handed d.pair d.pair.active_number); entries = es }) })
+    (λ (z : Side). z.steps ≤ v.steps + 1) (λ e. omega arith) (λ e. omega arith)
+
+look_steps : (v : Side) (b w : ℕ) → (side_look_buffer v b w).steps ≡ v.steps + 1
+look_steps v b w =
+    cond_both (eqb b 0) (record v { steps = v.steps + 1; first = slot_looked v.first w }) (record v { steps = v.steps + 1; second = slot_looked v.second w })
+    (λ (z : Side). z.steps ≡ v.steps + 1) (λ e. refl) (λ e. refl)
+
+hand_steps : (u : Setup) (d : Driver) (v : Side) (b : ℕ) (es : List Counted) → (hand_buffer u d v b es).side.steps ≤ v.steps + 1
+hand_steps u d v b es =
+    let x : Sent = record { note = buffer_header u d.at b (pair_handed d.pair b); entries = es } in
+    cond_both (eqb b 0) (record v { steps = v.steps + 1; first = slot_handed v.first x; room = room_after v.room x }) (record v { steps = v.steps + 1; second = slot_handed v.second x; room = room_after v.room x })
+    (λ (z : Side). z.steps ≤ v.steps + 1) (λ e. omega arith) (λ e. omega arith)
+
+write_steps : (u : Setup) (y : World) (k : Key) (p : Pace) (a : Option (List Counted)) → Within y.side 1 (write u y k p a)
+write_steps u y k Free None = omega arith
+write_steps u y k Exact None = omega arith
+write_steps u y k p (Some es) =
+    let d = take_next y.driver k y.driver.table in
+    let full = es ++ to_write k y.driver.table ∷ [] in
+    cond_both (leb u.size (length full)) (hand_buffer u d y.side d.pair.active_number full) (record { driver = record d { pair = record d.pair { active = Some full } }; side = y.side })
+    (λ (z : World). z.side.steps ≤ y.side.steps + 1) (λ e. hand_steps u d y.side d.pair.active_number full) (λ e. omega arith)
+
+find_steps : (h : Two) (d : Driver) (v : Side) (a : Option (List Counted)) → (find_buffer h d v a).side.steps ≤ v.steps + 2
+find_steps h d v (Some es) = omega arith
+find_steps h d v None =
+    let b = d.pair.next in let v1 = side_look_buffer v b (word_at h b) in
+    cond_both (is_even (word_at h b)) (record { driver = activate d b; side = v1 }) (look_other h d v1 (other b))
+    (λ (z : World). z.side.steps ≤ v.steps + 2)
+    (λ e. omega (arith, look_steps v b (word_at h b)))
+    (λ e. omega (arith, look_steps v b (word_at h b), look_steps v1 (other b) (word_at h (other b))))
+
+sample_steps : (u : Setup) (h : Two) (x : World) (k : Key) → Within x.side 3 (take_sample u h x k)
+sample_steps u h x k =
+    let y = find_buffer h x.driver x.side x.driver.pair.active in
+    cond_both (needs_write k x.driver.table) (write_sample u h x k) (ends_with (record { driver = take_next x.driver k x.driver.table; side = x.side }) Took)
+    (Within x.side 3)
+    (λ e. omega (arith, write_steps u y k u.pace y.driver.pair.active, find_steps h x.driver x.side x.driver.pair.active))
+    (λ e. omega arith)
+
+next_steps : (u : Setup) (h : Two) (w : ℕ) (x : World) (l : List Marked) → Within x.side 3 (next_sample u h w x l)
+next_steps u h w x [] = omega arith
+next_steps u h w x (s ∷ rest) =
+    cond_both (ltb (w / 2) s.mark) (ends_with x Held) (take_sample u h x s.key) (Within x.side 3) (λ e. omega arith) (λ e. sample_steps u h x s.key)
+
+answer_steps : (u : Setup) (x : World) (w : ℕ) (o : Option Table) → Within x.side 3 (answer_with u x w o)
+answer_steps u x w None = omega arith
+answer_steps u x w (Some t) = omega (arith, hand_active_steps u x.driver x.side x.driver.pair.active)
+
+regain_steps : (d : Driver) (v : Side) (n : ℕ) (o : Option Table) → (regain d v n o).side.steps ≤ v.steps + 1
+regain_steps d v n None = omega arith
+regain_steps d v n (Some t) = omega arith
+
+-- a turn makes at most five calls
+pub few_steps : (u : Setup) (h : Words) (x : World) → Within x.side 5 (turn_of u h x)
+few_steps u h x =
+    let y = regain x.driver (side_hear x.side h.bell) h.third x.driver.table in
+    cond_both x.driver.done (ends_with x Done) (after_regain u h y) (Within x.side 5)
+    (λ e. omega arith)
+    (λ e. cond_both (answers_now u y.driver h.bell) (answer_with u y h.bell y.driver.table) (next_sample u h.two h.bell y (drop y.driver.at u.samples)) (Within x.side 5)
+    (λ a. omega (arith, regain_steps x.driver (side_hear x.side h.bell) h.third x.driver.table, answer_steps u y h.bell y.driver.table))
+    (λ a. omega (arith, regain_steps x.driver (side_hear x.side h.bell) h.third x.driver.table, next_steps u h.two h.bell y (drop y.driver.at u.samples))))

@@ -1,0 +1,5 @@
+pub mod Apart
+pub mod Front
+pub mod Lines
+pub mod Limits
+pub mod Shape

@@ -1,0 +1,8 @@
+-- The lines so far, and those that are left.
+use Rattle.std.proofs.Common.{◌≡◌, ◌++◌, drop}
+use Rattle.std.specs.List.{flat_map}
+use Rattle.database_state.specs.Heads.{known_line}
+use Rattle.head_file.proofs.writing.put_known.Given as goal
+
+abbrev pub invariant-loop-row : goal.invariant-loop-row
+invariant-loop-row l = l.out.items ++ flat_map known_line (drop l.row-index l.rows) ≡ l.fn.out.items ++ flat_map known_line l.rows

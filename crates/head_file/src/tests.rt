@@ -1,0 +1,81 @@
+use super::*;
+use database_state::{KnownRow, UnknownRow};
+use image_catalog::Catalog;
+use std::alloc::Global;
+use std::test::Fail;
+use text_num::Name;
+
+const SECOND: &[u8] =
+    b"dcpi-head 1\ngeneration 2\nepoch 1\nruns 1\nimages 1\nA\nprofiles 2\n0 0 0 1\n1 0 0 2\nunknowns 0\n";
+
+fn second(alloc: Global) -> Result<Head, Fail> {
+    let mut catalog = Catalog::new(alloc);
+    let name = Name::of_bytes(alloc, b"A")?.ok_or("no name")?;
+    catalog.number_of(alloc, &name)?;
+    let mut known = Vec::new(alloc);
+    for (epoch, g) in [(0, 1), (1, 2)] {
+        known.push(KnownRow {
+            epoch,
+            image: 0,
+            event: 0,
+            g,
+        })?;
+    }
+    Ok(Head {
+        generation: 2,
+        epoch: 1,
+        runs: 1,
+        catalog,
+        known,
+        unknown: Vec::new(alloc),
+    })
+}
+
+#[test]
+fn a_head_is_written_and_read_again(rt: HostRuntime) -> Result<(), Fail> {
+    let alloc = rt.alloc();
+    assert_eq!(rt; write_head(alloc, &second(alloc)?)?.as_slice(), SECOND);
+    let head = read_head(alloc, SECOND, 2)?.ok_or("no head")?;
+    assert_eq!(rt; (head.generation, head.epoch, head.runs), (2, 1, 1));
+    assert_eq!(rt; head.catalog.names().len(), 1);
+    assert_eq!(rt; head.known, second(alloc)?.known);
+    assert_eq!(rt; head.unknown, Vec::<UnknownRow>::new(alloc));
+    Ok(())
+}
+
+/// The text with one part replaced.
+fn with(alloc: Global, old: &str, new: &str) -> Result<Vec<u8>, Fail> {
+    let text = String::from_utf8(SECOND.to_vec(alloc)?)
+        .ok()
+        .ok_or("no text")?;
+    Ok(text.replace(alloc, old, new)?.into_bytes())
+}
+
+#[test]
+fn other_texts_are_no_heads(rt: HostRuntime) -> Result<(), Fail> {
+    let alloc = rt.alloc();
+    for (old, new) in [
+        ("head 1", "head 2"),
+        ("generation 2", "generation 3"),
+        ("epoch 1", "epoch 01"),
+        ("epoch 1", "epoch 3"),
+        ("runs 1", "runs 0"),
+        ("images 1\nA", "images 2\nA\nA"),
+        ("images 1", "images 2"),
+        ("profiles 2", "profiles 1"),
+        ("0 0 0 1\n1 0 0 2", "1 0 0 2\n0 0 0 1"),
+        ("1 0 0 2", "1 1 0 2"),
+        ("1 0 0 2", "1 0 4 2"),
+        ("1 0 0 2", "1 0 0 3"),
+        ("1 0 0 2", "1 0 0 0"),
+        ("1 0 0 2", "1  0 0 2"),
+        ("unknowns 0\n", "unknowns 0"),
+        ("unknowns 0\n", "unknowns 0\n\n"),
+    ] {
+        let text = with(alloc, old, new)?;
+        assert!(rt; read_head(alloc, &text, 2)?.is_none(), "{old} {new}");
+    }
+    assert!(rt; read_head(alloc, SECOND, 1)?.is_none());
+    assert!(rt; read_head(alloc, b"", 2)?.is_none());
+    Ok(())
+}

@@ -1,0 +1,162 @@
+ghost use Rattle.std.specs.Prelude.{◌≡◌, ◌<◌, ◌≤◌, ◌↔◌, [], ◌++◌, length, slice_get, None, Some, IfOk, OnErr, IsErrOf};
+ghost use Rattle.std.specs.Option.{option_copied};
+ghost use Rattle.image_catalog.specs.Images.{place_of, with_name, AreImages};
+
+use std::alloc::{AllocError, AllocFailed, Global};
+use std::marker::Model;
+use text_num::Name;
+use thiserror::Error;
+
+/// How many images a catalog may hold.
+pub const MOST_IMAGES: usize = 4096;
+
+/// Why a name got no number.
+#[derive(Clone, Copy, Debug, PartialEq, Eq, Error)]
+pub enum CatalogError {
+    /// The name is new, and as many are held as may be.
+    #[error("too many images")]
+    Full,
+    /// Memory ran out.
+    #[error("out of memory")]
+    Memory,
+}
+
+impl From<AllocError> for CatalogError {
+    ghost use Rattle.image_catalog.specs.declared.catalog.CatalogError.TheVariants.{Memory};
+
+    ghost from_gives = { λ _ e. e ≡ Memory };
+
+    fn from(_: AllocError) -> Self {
+        CatalogError::Memory
+    }
+}
+
+impl<T: Drop> From<AllocFailed<T>> for CatalogError {
+    ghost use Rattle.image_catalog.specs.declared.catalog.CatalogError.TheVariants.{Memory};
+
+    ghost from_gives = { λ _ e. e ≡ Memory };
+
+    fn from(_: AllocFailed<T>) -> Self {
+        CatalogError::Memory
+    }
+}
+
+/// The images of a database. A name's number is its place, from 0; no name stands twice.
+#[derive(Drop)]
+pub struct Catalog {
+    names: Vec<Name>,
+}
+
+impl Model for Catalog {
+    ghost use Rattle.std.specs.Prelude.{ℕ, List};
+    ghost use Rattle.image_catalog.specs.Images.{AreImages};
+
+    ghost Value = { List (List ℕ) };
+
+    ghost view = { λ c. c.names.items };
+
+    ghost invariant = { λ c. AreImages c.names.items };
+}
+
+impl Catalog {
+    /// A catalog with no names.
+    pub fn new(alloc: Global) -> Catalog
+        ensures { result ≡ [] }
+    {
+        Catalog {
+            names: Vec::new(alloc),
+        }
+    }
+
+    /// The number of a name, which is added where it is new. After an error the catalog is as before.
+    pub fn number_of(&mut self, alloc: Global, name: &Name) -> Result<u32, CatalogError>
+        ensures names { IfOk result (λ _. self.new ≡ with_name self.old name.now) }
+        ensures number { IfOk result (λ number. place_of name.now self.new ≡ Some number) }
+        ensures full { IsErrOf result CatalogError.Full ↔ ((place_of name.now self.old ≡ None) × (length self.old ≡ 4096)) }
+        ensures refused { OnErr result (self.new ≡ self.old) }
+    {
+        if let Some(number) = self.find(name) {
+            return Ok(number);
+        }
+        let number = self.names.len();
+        if number >= MOST_IMAGES {
+            return Err(CatalogError::Full);
+        }
+        let name = name.copy(alloc)?;
+        self.names.push(name)?;
+        Ok(number as u32)
+    }
+
+    /// The number of a name; nothing exactly where it is not held.
+    pub fn find(&self, name: &Name) -> Option<u32>
+        ensures { result ≡ place_of name.now self.now }
+    {
+        match place(&self.names, name.bytes()) {
+            Some(number) => Some(number as u32),
+            None => None,
+        }
+    }
+
+    /// The name of a number; nothing exactly where the number is not given.
+    pub fn name(&self, number: u32) -> Option<&Name>
+        ensures { option_copied result ≡ slice_get self.now number }
+    {
+        self.names.get(number as usize)
+    }
+
+    /// The names, in the order of their numbers.
+    pub fn names(&self) -> &[Name]
+        ensures names { result.now ≡ self.now }
+        ensures images { AreImages result.now }
+    {
+        self.names.as_slice()
+    }
+}
+
+fn place(names: &[Name], name: &[u8]) -> Option<usize>
+    ensures { result ≡ place_of name.now names.now }
+{
+    names.iter().position(|held| held.bytes() == name)
+}
+
+#[cfg(test)]
+mod tests {
+    use super::*;
+    use std::test::Fail;
+
+    fn name(alloc: Global, text: &str) -> Result<Name, Fail> {
+        Ok(Name::of_bytes(alloc, text.as_bytes())?.ok_or("no name")?)
+    }
+
+    #[test]
+    fn names_have_numbers(rt: HostRuntime) -> Result<(), Fail> {
+        let alloc = rt.alloc();
+        let (a, b) = (name(alloc, "/bin/a")?, name(alloc, "/bin/b")?);
+        let mut catalog = Catalog::new(alloc);
+        assert_eq!(rt; catalog.find(&a), None);
+        assert_eq!(rt; catalog.number_of(alloc, &a)?, 0);
+        assert_eq!(rt; catalog.number_of(alloc, &b)?, 1);
+        assert_eq!(rt; catalog.number_of(alloc, &a)?, 0);
+        assert_eq!(rt; catalog.find(&b), Some(1));
+        assert_eq!(rt; catalog.names().len(), 2);
+        let second = catalog.name(1).ok_or("no second name")?;
+        assert_eq!(rt; second.bytes(), b"/bin/b".as_slice());
+        assert!(rt; catalog.name(2).is_none());
+        Ok(())
+    }
+
+    #[test]
+    fn the_last_number_is_4095(rt: HostRuntime) -> Result<(), Fail> {
+        let alloc = rt.alloc();
+        let mut catalog = Catalog::new(alloc);
+        for n in 0u32..4096 {
+            let image = format!(in alloc; "/bin/{n}")?;
+            assert_eq!(rt; catalog.number_of(alloc, &name(alloc, image.as_str())?)?, n);
+        }
+        let other = name(alloc, "/bin/other")?;
+        assert_eq!(rt; catalog.number_of(alloc, &other), Err(CatalogError::Full));
+        assert_eq!(rt; catalog.names().len(), 4096);
+        assert_eq!(rt; catalog.number_of(alloc, &name(alloc, "/bin/7")?)?, 7);
+        Ok(())
+    }
+}

@@ -1,0 +1,10 @@
+pub mod Fixed
+pub mod Looks
+pub mod Calls
+pub mod Kept
+pub mod Cuts
+pub mod Cells
+pub mod Tallies
+pub mod Tallied
+pub mod Plain
+pub mod Insides

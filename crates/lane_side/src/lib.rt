@@ -1,0 +1,22 @@
+//! What lies between one processor's driver and the daemon: three cells, of which the value of each is handed over and
+//! given back by a word, and a bell. The two traits say what each may do with them and what it learns.
+//! `PlainSide` meets both for one thread, and remembers all that was handed.
+#![tactic(auto)]
+
+mod cells;
+mod counts;
+mod endpoints;
+mod history;
+mod looks;
+mod plain;
+mod plain_daemon;
+mod plain_lane;
+mod sides;
+
+pub use endpoints::Endpoint;
+pub use looks::{Look, Poll, PollOf};
+pub use plain::PlainSide;
+pub use sides::{DaemonSide, LaneSide};
+
+#[cfg(test)]
+mod tests;

@@ -1,0 +1,4 @@
+pub mod Exits
+pub mod FileTexts
+pub mod History
+pub mod Presence

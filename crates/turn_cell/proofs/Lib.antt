@@ -1,0 +1,5 @@
+pub mod BellSteps
+pub mod Readying
+pub mod CellSteps
+pub mod SoundCells
+pub mod LastParcel

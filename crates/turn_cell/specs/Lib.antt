@@ -1,0 +1,4 @@
+pub mod Parcels
+pub mod Handoff
+pub mod Doorbell
+pub mod Ends

@@ -1,0 +1,4 @@
+mod calls;
+mod carried;
+mod crates;
+mod threads;

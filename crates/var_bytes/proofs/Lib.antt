@@ -1,0 +1,5 @@
+pub mod NumberLaws
+pub mod FieldLaws
+pub mod FormLaws
+pub mod Writing
+pub mod Appending
