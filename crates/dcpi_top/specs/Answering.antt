@@ -1,6 +1,7 @@
 -- What the status says of the input and the outputs.
 use Rattle.std.specs.Prelude.{◌≡◌, ℕ, List, ◌⊎◌, IfSome}
 use Rattle.std.specs.declared.option.Option.{Option}
+use Rattle.std.specs.declared.option.Option.TheVariants.{Some, None}
 use Rattle.std.specs.Io.KnownBytes.{Appends}
 use Rattle.outside_io.specs.Causes.{Rose}
 use Rattle.outside_io.specs.Prefix.{AppendsPrefix}
@@ -29,6 +30,7 @@ pub record TellsBad (input old new : Option (List ℕ)) (before now : ℕ) : Typ
   pub first_bad : IfSome input (λ bytes. FirstBad bytes number why)
   pub told : Tells (bad_line number why) bad_start old new before now
 
--- the input is a trace
+-- the bytes of the input are told, and are a trace
 abbrev pub IsTrace : Option (List ℕ) → Type 0
-IsTrace input = IfSome input (λ bytes. (r : Recording) × Reads bytes r)
+IsTrace None = ⊥
+IsTrace (Some bytes) = (r : Recording) × Reads bytes r

@@ -12,3 +12,6 @@ pub use commands::{Command, words_of};
 pub use direct_counts::{counts_text, plain_counts};
 pub use plains::plain;
 pub use trace_text::TraceRefusal;
+
+#[cfg(test)]
+mod tests;

@@ -15,3 +15,6 @@ mod traces;
 pub use refusals::TraceRefusal;
 pub use trace_model::{Line, Record, Step, Trace, TraceWhy};
 pub use traces::read_trace;
+
+#[cfg(test)]
+mod tests;
