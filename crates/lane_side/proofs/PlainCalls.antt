@@ -15,8 +15,8 @@ use Rattle.lane_side.specs.declared.cells.Cell.{Cell}
 use Rattle.lane_side.specs.declared.counts.Call.TheVariants.{Try, Pass}
 use Rattle.driver_model.specs.Handover.{far_slot_of}
 use Rattle.lane_side.specs.Plain.{Plain}
-use Rattle.lane_side.specs.declared.looks.PollOf.{PollOf}
-use Rattle.lane_side.specs.declared.looks.PollOf.TheVariants.{Parcel as Got}
+use Rattle.turn_cell.specs.declared.passing.PollOf.{PollOf}
+use Rattle.turn_cell.specs.declared.passing.PollOf.TheVariants.{Parcel as Got}
 use Rattle.lane_side.proofs.PlainLemmas.{handed_plain0, handed_plain1, handed_plain2, polled_plain0, polled_plain1, taken_plain2, drivers_state}
 
 -- the same, as the calls find it: the parts are seen as this value, and the new parts are these

@@ -8,9 +8,9 @@ use Rattle.driver_model.specs.Sides.{Slot, Room, Side, slot_of, side_look_buffer
 use Rattle.driver_model.specs.Handover.{FarSide, given_of, far_took_buffer, far_took_table, rung_of, side_poll_buffer, side_poll_table, WasRung}
 use Rattle.overflow_pair.specs.Contents.{Contents, empty_buffer}
 use Rattle.lane_side.specs.Fixed.{Fixed}
-use Rattle.lane_side.specs.Looks.{MatchLook, MatchPoll}
-use Rattle.lane_side.specs.declared.looks.Look.{Look}
-use Rattle.lane_side.specs.declared.looks.PollOf.{PollOf}
+use Rattle.turn_cell.specs.Parcels.{MatchLook, MatchPoll}
+use Rattle.turn_cell.specs.declared.passing.Look.{Look}
+use Rattle.turn_cell.specs.declared.passing.PollOf.{PollOf}
 
 -- the word of a cell that was handed and given back so often
 abbrev pub word_of : Slot → ℕ → ℕ

@@ -3,10 +3,10 @@ use Rattle.sample_key.specs.declared.batches.Parcel.{Parcel}
 use Rattle.lane_side.specs.declared.cells.State.{State}
 use Rattle.lane_side.specs.declared.cells.State.TheVariants.{AtHome, WithDriver, Posted, WithDaemon}
 use Rattle.lane_side.specs.declared.cells.Cell.{Cell}
-use Rattle.lane_side.specs.declared.looks.Look.{Look}
-use Rattle.lane_side.specs.declared.looks.Look.TheVariants.{Back, Out}
-use Rattle.lane_side.specs.declared.looks.PollOf.{PollOf}
-use Rattle.lane_side.specs.declared.looks.PollOf.TheVariants.{Parcel as Got, Home}
+use Rattle.turn_cell.specs.declared.passing.Look.{Look}
+use Rattle.turn_cell.specs.declared.passing.Look.TheVariants.{Back, Out}
+use Rattle.turn_cell.specs.declared.passing.PollOf.{PollOf}
+use Rattle.turn_cell.specs.declared.passing.PollOf.TheVariants.{Parcel as Got, Home}
 
 -- whether the driver holds the value
 abbrev pub is_drivers : {B : Type 0} → State B → Bool

@@ -1,5 +1,4 @@
 pub mod Fixed
-pub mod Looks
 pub mod Calls
 pub mod Kept
 pub mod Cuts

@@ -2,8 +2,8 @@ ghost use Rattle.std.specs.Prelude.{◌≡◌, ◌+◌, ◌≤◌, ◌^◌};
 ghost use Rattle.lane_side.specs.Cells.{look_of, after_look, poll_of, after_poll};
 ghost use Rattle.lane_side.specs.declared.cells.State.TheVariants.{AtHome, WithDriver, Posted, WithDaemon};
 
-use crate::looks::{Look, PollOf};
 use sample_key::Parcel;
+use turn_cell::{Look, PollOf};
 
 // Where the value of a cell is.
 #[derive(Drop)]

@@ -7,16 +7,15 @@ mod cells;
 mod counts;
 mod endpoints;
 mod history;
-mod looks;
 mod plain;
 mod plain_daemon;
 mod plain_lane;
 mod sides;
 
 pub use endpoints::Endpoint;
-pub use looks::{Look, Poll, PollOf};
 pub use plain::PlainSide;
-pub use sides::{DaemonSide, LaneSide};
+pub use sides::{DaemonSide, LaneSide, Poll};
+pub use turn_cell::{Look, PollOf};
 
 #[cfg(test)]
 mod tests;

@@ -1,10 +1,10 @@
 use crate::counts::Call;
-use crate::looks::{Poll, PollOf};
 use crate::plain::PlainSide;
-use crate::sides::DaemonSide;
+use crate::sides::{DaemonSide, Poll};
 use assoc_table::AssocTable;
 use overflow_pair::Buffer;
 use std::snapshot::Snapshot;
+use turn_cell::PollOf;
 
 impl DaemonSide for PlainSide {
     fn ring(&mut self, value: u64) {

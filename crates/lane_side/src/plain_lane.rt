@@ -1,11 +1,11 @@
 use crate::counts::Call;
-use crate::looks::Look;
 use crate::plain::PlainSide;
 use crate::sides::LaneSide;
 use assoc_table::AssocTable;
 use overflow_pair::Buffer;
 use sample_key::Parcel;
 use std::snapshot::Snapshot;
+use turn_cell::Look;
 
 impl LaneSide for PlainSide {
     fn hear(&mut self) -> u64 {

@@ -7,10 +7,13 @@ ghost use Rattle.lane_side.specs.Fixed.{Fixed};
 ghost use Rattle.lane_side.specs.Calls.{LooksAtBuffer, LooksAtTable, MayHandBuffer, MayHandTable, PollsEvenly, RingsEvenly, PollsBuffer, PollsTable, buffer_sent, table_sent};
 
 use crate::endpoints::Endpoint;
-use crate::looks::{Look, Poll};
 use assoc_table::AssocTable;
 use overflow_pair::Buffer;
 use sample_key::Parcel;
+use turn_cell::{Look, PollOf};
+
+/// What a poll of a cell with values of this type found.
+pub type Poll<B> = PollOf<Parcel<B>>;
 
 /// The driver's side: it hears the bell, looks for values and hands them over. No call waits, takes a lock or takes memory.
 pub trait LaneSide: Endpoint {
