@@ -1,0 +1,3 @@
+pub mod Bounding
+pub mod Fitting
+pub mod Joining
