@@ -3,13 +3,14 @@ use Rattle.std.specs.Prelude.{◌≡◌, ℕ, ◌&&◌, Bool, true, false, if◌
 use Rattle.std.specs.List.{list_any, flat_map, fold}
 use Rattle.std.specs.Option.{is_none}
 use Rattle.std.specs.Str.{bytes_eq}
+use Rattle.text_num.specs.Lines.{text_of_lines}
 use Rattle.trace_model.specs.declared.notices.Record.{Record}
 use Rattle.trace_model.specs.declared.notices.Record.TheVariants.{Scan, Load, Unload, Exec, Exit, Kernel, Drain, Merge, Epoch}
 use Rattle.trace_model.specs.declared.notices.Line.{Line}
 use Rattle.trace_model.specs.declared.notices.Line.TheVariants.{Sample, Rec}
 use Rattle.trace_model.specs.declared.notices.Step.{Step}
 use Rattle.trace_model.specs.declared.notices.Step.TheVariants.{Lane, Poll, Advance}
-use Rattle.trace_model.specs.Said.{Said, ShortHeader, LongHeader, Sampled, Scanned, Loaded, Unloaded, Executed, Exited, KernelMapped, Drained, Merged, EpochBegun, Ended, Turned, Polled, Advanced, images_named, every, tested, is_within, is_aligned}
+use Rattle.trace_model.specs.Said.{Said, ShortHeader, LongHeader, Sampled, Scanned, Loaded, Unloaded, Executed, Exited, KernelMapped, Drained, Merged, EpochBegun, Ended, Turned, Polled, Advanced, line_text, images_named, every, tested, is_within, is_aligned}
 use Rattle.trace_model.specs.Grammar.{first_that_applies, value_tests, Says}
 
 -- a trace: its sizes, the names of its images, its body and its schedule
@@ -58,6 +59,10 @@ step_said Advance = Advanced
 -- what the trace says, line by line
 abbrev pub said_in : Recording → List (Said ℕ)
 said_in r = LongHeader r.cpus r.buckets r.buffer ∷ (map (line_said r.images) r.lines ++ Ended ∷ map step_said r.schedule)
+
+-- the text of a trace, in the long form: the lines that say it, each ended by a line feed
+abbrev pub trace_text : Recording → List ℕ
+trace_text r = text_of_lines (map line_text (said_in r))
 
 -- nothing is wrong with the values of these lines, after what the lines before them said
 abbrev pub are_good : List (Said ℕ) → List (Said ℕ) → Bool
