@@ -1,0 +1,5 @@
+pub mod Joined
+pub mod Lines
+pub mod Spelled
+pub mod Staged
+pub mod Telling
