@@ -1,6 +1,6 @@
 -- Fields apart by one space, cut again at each space.
-use Rattle.std.proofs.Common.{◌≡◌, ◌≢◌, ℕ, ◌+◌, ◌<◌, ◌≤◌, ◌==◌, List, [], ◌∷◌, ◌++◌, length, refl, ap, sym, ◌∙◌, arith}
-use Rattle.std.specs.List.{AllByRecursion, join_with_byte, slice_split, onto_first}
+use Rattle.std.proofs.Common.{◌≡◌, ℕ, List, [], ◌∷◌, ◌++◌, refl, ap, ◌∙◌, arith}
+use Rattle.std.specs.List.{AllByRecursion, join_with_byte}
 use Rattle.std.proofs.lemmas.Bool.{ne_eqb}
 use Rattle.text_num.specs.Lines.{HasNoLineFeed}
 use Rattle.trace_model.specs.Grammar.{cut_at_spaces}

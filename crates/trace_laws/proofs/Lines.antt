@@ -1,5 +1,5 @@
 -- The lines of good values: their fields, their length, and what they read as.
-use Rattle.std.proofs.Common.{◌≡◌, ◌≢◌, ℕ, ◌+◌, ◌-◌, ◌^◌, ◌<◌, ◌≤◌, ◌==◌, ◌&&◌, Bool, true, false, not, List, [], ◌∷◌, ◌++◌, length, refl, ap, sym, ◌∙◌, arith, codes, ltb, ⊎_elim}
+use Rattle.std.proofs.Common.{◌≡◌, ◌≢◌, ℕ, ◌+◌, ◌-◌, ◌^◌, ◌<◌, ◌≤◌, ◌==◌, ◌&&◌, Bool, true, false, not, List, [], ◌∷◌, length, refl, sym, ◌∙◌, arith, codes, ⊎_elim}
 use Rattle.std.specs.List.{AllByRecursion, list_all, list_any, join_with_byte}
 use Rattle.std.specs.Fmt.{digits, decimal}
 use Rattle.std.proofs.lemmas.Bool.{and_parts, and_from, leb-true, ltb-true, eqb-true, not-true, false≢true, eq-eqb, or_cases}
@@ -10,8 +10,8 @@ use Rattle.sample_key.specs.declared.events.Event.TheVariants.{Cycles, Imiss, Dm
 use Rattle.sample_key.specs.Events.{name_of}
 use Rattle.text_num.specs.Names.{is_name, is_visible}
 use Rattle.text_num.specs.Numbers.{HasSpelling}
-use Rattle.trace_model.specs.Said.{Said, ShortHeader, LongHeader, Sampled, Scanned, Loaded, Unloaded, Executed, Exited, KernelMapped, Drained, Merged, EpochBegun, Ended, Turned, Polled, Advanced, Field, Decimal, PowerOfTwo, Address, Mapping, Title, every, tested, is_spelled, is_within, is_titled, is_table_size, values_of, spellings_of, fields_of, line_text}
-use Rattle.trace_laws.proofs.Spelled.{IsField, IsFieldByte, IsSpelling, spelled, decimal_short, hexadecimal_short}
+use Rattle.trace_model.specs.Said.{Said, ShortHeader, LongHeader, Sampled, Scanned, Loaded, Unloaded, Executed, Exited, KernelMapped, Drained, Merged, EpochBegun, Ended, Turned, Polled, Advanced, Decimal, PowerOfTwo, Address, Mapping, every, tested, is_spelled, is_within, is_titled, values_of, spellings_of, fields_of, line_text}
+use Rattle.trace_laws.proofs.Spelled.{IsField, IsSpelling, spelled, decimal_short, hexadecimal_short}
 
 -- what a line with good values is
 pub record IsLineOf (said : Said ℕ) : Type 0 where

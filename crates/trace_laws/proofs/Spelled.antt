@@ -1,12 +1,12 @@
 -- The spellings of numbers: what they read as, which bytes they have, and how long they are.
-use Rattle.std.proofs.Common.{◌≡◌, ◌≢◌, ℕ, zero, suc, ◌+◌, ◌*◌, ◌/◌, ◌%◌, ◌^◌, ◌<◌, ◌≤◌, ◌&&◌, Bool, true, false, List, [], ◌∷◌, ◌++◌, length, refl, ap, sym, subst, ◌∙◌, arith, Some, None, if◌then◌else◌, ltb, ⊎_elim}
+use Rattle.std.proofs.Common.{◌≡◌, ◌≢◌, ℕ, zero, suc, ◌/◌, ◌%◌, ◌^◌, ◌<◌, ◌≤◌, true, false, List, [], ◌∷◌, length, refl, ap, arith, ltb, ⊎_elim}
 use Rattle.std.specs.List.{list_all, AllByRecursion}
 use Rattle.std.specs.Fmt.{digit_glyph, digits_onto, digits, decimal}
 use Rattle.std.proofs.lemmas.Bool.{and_parts, ltb-true, cases_eq}
 use Rattle.std.proofs.lemmas.Fmt.{length-decimal-le}
 use Rattle.std.proofs.lemmas.List.{length-append}
-use Rattle.std.proofs.Math.Nat.{div-add-mod, mod-lt, div-eq_of_lt, div-lt_iff_lt-mul, pow-suc}
-use Rattle.text_num.specs.Numbers.{digit_value, is_digit, is_canonical, value_of, number, HasSpelling}
+use Rattle.std.proofs.Math.Nat.{div-eq_of_lt, div-lt_iff_lt-mul, pow-suc}
+use Rattle.text_num.specs.Numbers.{digit_value, is_digit, is_canonical, value_of, HasSpelling}
 use Rattle.text_num.proofs.Spelling.{onto_last, onto_more, told_of}
 
 -- a byte of a field: neither a blank nor a line feed
@@ -46,7 +46,7 @@ onto_short (suc f) zero n h = rw (onto_last f 16 n (div-eq_of_lt {n = n} {m = 16
 onto_short (suc f) (suc k) n h = ⊎_elim
     (λ e. rw (onto_last f 16 n e) (omega arith))
     (λ ne. let front : length (digits_onto f 16 false (n / 16) []) ≤ suc k = onto_short f k (n / 16) ((div-lt_iff_lt-mul {k = 16} {x = n} {y = 16 ^ suc k} (omega arith)).1 (omega (arith, h, pow-suc 16 (suc k)))) in
-        rw (onto_more f 16 n ne) (omega (arith, front, length-append (digits_onto f 16 false (n / 16) []) (digit_glyph false (n % 16) ∷ []))))
+    rw (onto_more f 16 n ne) (omega (arith, front, length-append (digits_onto f 16 false (n / 16) []) (digit_glyph false (n % 16) ∷ []))))
     (cases_eq (n / 16) 0)
 
 pub hexadecimal_short : (n : ℕ) → n < 2 ^ 64 → length (digits 16 false n) ≤ 16

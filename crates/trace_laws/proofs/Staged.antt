@@ -1,10 +1,8 @@
 -- The part of a trace that a line belongs to.
-use Rattle.std.proofs.Common.{◌≡◌, ℕ, ◌||◌, Bool, true, false, List, [], ◌∷◌, ◌++◌, map, refl, ap, sym, ◌∙◌, subst, Option, Some, None}
+use Rattle.std.proofs.Common.{◌≡◌, ℕ, true, false, List, [], ◌∷◌, ◌++◌, map, refl, sym, ◌∙◌, Some}
 use Rattle.std.specs.List.{list_any}
-use Rattle.std.proofs.lemmas.Bool.{or_parts, or_from, or_left, or_right, false≢true}
-use Rattle.std.proofs.lemmas.List.{append_assoc}
+use Rattle.std.proofs.lemmas.Bool.{or_from, or_left, or_right, false≢true}
 use Rattle.std.proofs.lemmas.List.Folds.{list_any-append}
-use Rattle.sample_key.specs.declared.events.Event.{Event}
 use Rattle.sample_key.specs.declared.events.Event.TheVariants.{Cycles, Imiss, Dmiss, Branchmp}
 use Rattle.trace_model.specs.declared.notices.Record.{Record}
 use Rattle.trace_model.specs.declared.notices.Record.TheVariants.{Scan, Load, Unload, Exec, Exit, Kernel, Drain, Merge, Epoch}
@@ -12,7 +10,6 @@ use Rattle.trace_model.specs.declared.notices.Line.{Line}
 use Rattle.trace_model.specs.declared.notices.Line.TheVariants.{Sample, Rec}
 use Rattle.trace_model.specs.declared.notices.Step.{Step}
 use Rattle.trace_model.specs.declared.notices.Step.TheVariants.{Lane, Poll, Advance}
-use Rattle.trace_model.specs.declared.recordings.Trace.{Trace}
 use Rattle.trace_model.specs.Said.{Said, ShortHeader, LongHeader, Sampled, Scanned, Loaded, Unloaded, Executed, Exited, KernelMapped, Drained, Merged, EpochBegun, Ended, Turned, Polled, Advanced, is_end, spellings_of, fields_of}
 use Rattle.trace_model.specs.Grammar.{Stage, AtHeader, AtBody, AtSchedule, stage_after, form_at}
 use Rattle.trace_model.specs.Recording.{Recording, record_said, line_said, step_said, said_in}
@@ -101,8 +98,11 @@ step_long Advance = refl
 
 steps_staged : (first : Said ℕ) (before : List (Said ℕ)) (steps : List Step) → list_any is_end (first ∷ before) ≡ true → AreStaged (first ∷ before) (map step_said steps)
 steps_staged first before [] h = tt
-steps_staged first before (step ∷ steps) h = (at_schedule first before h ∙ sym (step_stage step), step_long step,
-    steps_staged first (before ++ step_said step ∷ []) steps (list_any-append is_end (first ∷ before) (step_said step ∷ []) ∙ or_left _ _ h))
+steps_staged first before (step ∷ steps) h = (
+  at_schedule first before h ∙ sym (step_stage step),
+  step_long step,
+  steps_staged first (before ++ step_said step ∷ []) steps (list_any-append is_end (first ∷ before) (step_said step ∷ []) ∙ or_left _ _ h),
+)
 
 end_staged : (first : Said ℕ) (before : List (Said ℕ)) (steps : List Step) → list_any is_end (first ∷ before) ≡ false → AreStaged (first ∷ before) (Ended ∷ map step_said steps)
 end_staged first before steps h = (at_body first before h, refl, steps_staged first (before ++ Ended ∷ []) steps (list_any-append is_end (first ∷ before) (Ended ∷ []) ∙ or_right _ _ refl))

@@ -8,3 +8,4 @@ pub mod Phasing
 pub mod ScheduleSteps
 pub mod Tracking
 pub mod Walking
+pub mod Written

@@ -7,3 +7,4 @@ pub mod Refusing
 pub mod State
 pub mod Stepping
 pub mod Taking
+pub mod Writing

@@ -11,10 +11,12 @@ mod refusals;
 mod schedule;
 mod steps;
 mod traces;
+mod writing;
 
-pub use refusals::TraceRefusal;
+pub use refusals::{PutError, TraceRefusal};
 pub use trace_model::{Line, Record, Step, Trace, TraceWhy};
 pub use traces::read_trace;
+pub use writing::write_trace;
 
 #[cfg(test)]
 mod tests;

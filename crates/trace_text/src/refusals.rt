@@ -1,4 +1,5 @@
 use line_reader::LineFault;
+use outside_io::WriteFault;
 use std::alloc::{AllocError, AllocFailed};
 use thiserror::Error;
 use trace_model::TraceWhy;
@@ -22,6 +23,17 @@ pub enum TraceRefusal {
 pub enum LineRefusal {
     #[error("{why}")]
     Bad { why: TraceWhy },
+    #[error("out of memory")]
+    Memory,
+}
+
+/// Why a trace was not written whole.
+#[derive(Clone, Copy, Debug, PartialEq, Eq, Error)]
+pub enum PutError {
+    /// The sink failed.
+    #[error("a write failed")]
+    WriteFault,
+    /// No memory was found.
     #[error("out of memory")]
     Memory,
 }
@@ -80,5 +92,27 @@ impl From<LineFault> for TraceRefusal {
             LineFault::ReadFault => TraceRefusal::ReadFault,
             LineFault::Memory => TraceRefusal::Memory,
         }
+    }
+}
+
+impl From<AllocError> for PutError {
+    ghost use Rattle.std.specs.Prelude.{◌≡◌};
+    ghost use Rattle.trace_text.specs.declared.refusals.PutError.TheVariants.{Memory};
+
+    ghost from_gives = { λ _ e. e ≡ Memory };
+
+    fn from(_: AllocError) -> Self {
+        PutError::Memory
+    }
+}
+
+impl From<WriteFault> for PutError {
+    ghost use Rattle.std.specs.Prelude.{◌≡◌};
+    ghost use Rattle.trace_text.specs.declared.refusals.PutError.TheVariants as puts;
+
+    ghost from_gives = { λ _ e. e ≡ puts.WriteFault };
+
+    fn from(_: WriteFault) -> Self {
+        PutError::WriteFault
     }
 }
