@@ -1,3 +1,4 @@
+pub mod Exclusive
 pub mod Joined
 pub mod Lines
 pub mod Spelled

@@ -1,0 +1,8 @@
+use Rattle.trace_laws.proofs.Exclusive.{not_both, one_refusal}
+use Rattle.trace_laws.proofs.readings.one_reading.Goals as goal
+
+pub returns-clause-not_both : goal.returns-clause-not_both
+returns-clause-not_both c bytes trace bad = not_both bytes bad.0 bad.1 trace.0 bad.2 trace.1
+
+pub returns-clause-one_refusal : goal.returns-clause-one_refusal
+returns-clause-one_refusal c = one_refusal
