@@ -1,4 +1,6 @@
 pub mod Exclusive
+pub mod Images
+pub mod Inverse
 pub mod Joined
 pub mod Lines
 pub mod Spelled

@@ -51,10 +51,10 @@ abbrev pub AreStaged : List (Said ℕ) → List (Said ℕ) → Type 0
 AreStaged before [] = Unit {0}
 AreStaged before (said ∷ more) = (stage_after before ≡ stage_of said) × (is_short said ≡ false) × AreStaged (before ++ said ∷ []) more
 
-record IsBodyLine (said : Said ℕ) : Type 0 where
-  body : stage_of said ≡ AtBody
-  long : is_short said ≡ false
-  no_end : is_end said ≡ false
+pub record IsBodyLine (said : Said ℕ) : Type 0 where
+  pub body : stage_of said ≡ AtBody
+  pub long : is_short said ≡ false
+  pub no_end : is_end said ≡ false
 
 record_in_body : (images : List (List ℕ)) (entry : Record) → IsBodyLine (record_said images entry)
 record_in_body images (Scan process base size image) = record { body = refl; long = refl; no_end = refl }
@@ -67,7 +67,7 @@ record_in_body images Drain = record { body = refl; long = refl; no_end = refl }
 record_in_body images Merge = record { body = refl; long = refl; no_end = refl }
 record_in_body images Epoch = record { body = refl; long = refl; no_end = refl }
 
-line_in_body : (images : List (List ℕ)) (line : Line) → IsBodyLine (line_said images line)
+pub line_in_body : (images : List (List ℕ)) (line : Line) → IsBodyLine (line_said images line)
 line_in_body images (Sample cpu key) = record { body = refl; long = refl; no_end = refl }
 line_in_body images (Rec entry) = record_in_body images entry
 

@@ -1,4 +1,5 @@
 use Rattle.trace_laws.proofs.Exclusive.{not_both, one_refusal}
+use Rattle.trace_laws.proofs.Inverse.{one_trace}
 use Rattle.trace_laws.proofs.readings.one_reading.Goals as goal
 
 pub returns-clause-not_both : goal.returns-clause-not_both
@@ -6,3 +7,6 @@ returns-clause-not_both c bytes trace bad = not_both bytes bad.0 bad.1 trace.0 b
 
 pub returns-clause-one_refusal : goal.returns-clause-one_refusal
 returns-clause-one_refusal c = one_refusal
+
+pub returns-clause-one_trace : goal.returns-clause-one_trace
+returns-clause-one_trace c = one_trace
