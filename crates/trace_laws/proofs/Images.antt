@@ -1,8 +1,8 @@
 -- The images of a trace: each that is named stands there once.
-use Rattle.std.proofs.Common.{◌≡◌, ◌≢◌, ℕ, zero, suc, ◌+◌, ◌<◌, ◌≤◌, ◌||◌, Bool, true, false, cond, if◌then◌else◌, List, [], ◌∷◌, ◌++◌, length, refl, ap, sym, subst, ◌∙◌, arith, ⊎_elim}
+use Rattle.std.proofs.Common.{◌≡◌, ◌≢◌, ℕ, zero, suc, ◌<◌, Bool, true, false, if◌then◌else◌, List, [], ◌∷◌, ◌++◌, length, refl, sym, ◌∙◌, arith, ⊎_elim}
 use Rattle.std.specs.List.{AllByRecursion, list_any, fold, flat_map}
 use Rattle.std.specs.Str.{bytes_eq}
-use Rattle.std.proofs.lemmas.Bool.{or_parts, or_cases, cases_Bool, false≢true, true≢false}
+use Rattle.std.proofs.lemmas.Bool.{or_parts, or_cases, false≢true, true≢false}
 use Rattle.std.proofs.lemmas.List.{length-append}
 use Rattle.std.proofs.lemmas.Slice.Eq.{bytes_eq-Decides}
 use Rattle.trace_model.specs.Said.{Said, images_named}
@@ -86,7 +86,7 @@ named_fold : (names more : List (List ℕ)) → AllByRecursion (IsNamed (fold wi
 named_fold names [] = tt
 named_fold names (name ∷ more) = (kept_fold (with_name names name) more name (named_by (list_any (bytes_eq name) names) name names refl), named_fold (with_name names name) more)
 
-all_front : {A : Type 0} (P : A → Type 0) (xs ys : List A) → AllByRecursion P (xs ++ ys) → AllByRecursion P xs × AllByRecursion P ys
+pub all_front : {A : Type 0} (P : A → Type 0) (xs ys : List A) → AllByRecursion P (xs ++ ys) → AllByRecursion P xs × AllByRecursion P ys
 all_front P [] ys h = (tt, h)
 all_front P (x ∷ xs) ys h = let p = all_front P xs ys h.1 in ((h.0, p.0), p.1)
 

@@ -1,6 +1,5 @@
 -- What a trace says tells the trace.
-use Rattle.std.proofs.Common.{◌≡◌, ◌≢◌, ℕ, zero, suc, ◌+◌, ◌%◌, ◌<◌, ◌≤◌, Bool, true, false, List, [], ◌∷◌, ◌++◌, length, map, refl, ap, sym, subst, ◌∙◌, arith, Option, Some, None, Result, Ok, Err}
-use Rattle.std.specs.List.{AllByRecursion}
+use Rattle.std.proofs.Common.{◌≡◌, ℕ, zero, suc, ◌%◌, ◌<◌, Bool, true, false, List, [], ◌∷◌, ◌++◌, length, map, refl, ap, sym, subst, ◌∙◌, arith, Option, Some, None, Result, Ok, Err}
 use Rattle.std.specs.Option.{is_none}
 use Rattle.std.proofs.Math.Nat.{ℕ_set}
 use Rattle.std.proofs.lemmas.List.{append-nil, append_assoc}
@@ -17,11 +16,13 @@ use Rattle.trace_model.specs.declared.notices.Line.TheVariants.{Sample, Rec}
 use Rattle.trace_model.specs.declared.notices.Step.{Step}
 use Rattle.trace_model.specs.declared.notices.Step.TheVariants.{Lane, Poll, Advance}
 use Rattle.trace_model.specs.Said.{Said, ShortHeader, LongHeader, Sampled, Scanned, Loaded, Unloaded, Executed, Exited, KernelMapped, Drained, Merged, EpochBegun, Ended, Turned, Polled, Advanced, every, tested, is_titled, is_end, is_sample, values_of}
-use Rattle.trace_model.specs.Grammar.{verdict, verdict_of_form, verdict_on, judged, where_said, said_by, Says, first_that_applies, value_tests, tests_of, form_at, stage_after, cut_at_spaces}
+use Rattle.trace_model.specs.Grammar.{Stage, verdict, verdict_of_form, judged, where_said, said_by, Says, first_that_applies, value_tests, tests_of, form_at, stage_after, cut_at_spaces}
 use Rattle.trace_model.specs.Recording.{Recording, recording, Reads, are_good, name_at, record_said, line_said, step_said, said_in, images_in_order}
 use Rattle.trace_laws.proofs.Telling.{all_clear}
 use Rattle.trace_laws.proofs.Exclusive.{says_one}
-use Rattle.trace_laws.proofs.Staged.{line_in_body}
+use Rattle.trace_laws.proofs.Lines.{is_short}
+use Rattle.trace_laws.proofs.Staged.{AreStaged, stage_of, line_in_body}
+use Rattle.trace_laws.proofs.Forms.{IsFormOf, form_is}
 use Rattle.trace_laws.proofs.Images.{AreDistinct, images_distinct, place_of, place_at}
 
 some_none : {A : Type 0} {x : A} → Some x ≡ None → ⊥
@@ -45,6 +46,12 @@ spelled_good : (b : Bool) (tests : List (TraceWhy × Bool)) → first_that_appli
 spelled_good true tests e = absurd (some_none e)
 spelled_good false tests e = e
 
+form_staged : (before : List (Said ℕ)) (stage : Stage) (form : Option (Said (List ℕ))) (said : Said ℕ) → IsFormOf stage form → verdict_of_form before form ≡ Ok said → (stage ≡ stage_of said) × (is_short said ≡ false)
+form_staged before stage None said h e = absurd (err_ok _ said e)
+form_staged before stage (Some raw) said h e =
+    let p = judged_good (first_that_applies (tests_of before raw)) (values_of raw) said e in
+    (sym h.0 ∙ ap stage_of p.1, sym (ap is_short p.1) ∙ h.1)
+
 form_good : (before : List (Said ℕ)) (form : Option (Said (List ℕ))) (said : Said ℕ) → verdict_of_form before form ≡ Ok said → is_none (first_that_applies (value_tests before said)) ≡ true
 form_good before None said e = absurd (err_ok _ said e)
 form_good before (Some raw) said e =
@@ -60,24 +67,31 @@ record Follows (before said : List (Said ℕ)) : Type 0 where
   more : List (Said ℕ)
   whole : said ≡ before ++ more
   good : are_good before more ≡ true
+  staged : AreStaged before more
 
 some_is : {A : Type 0} (a b : A) → Some a ≡ Some b → a ≡ b
 some_is a b e = cc
 
 follows : (before said : List (Said ℕ)) (lines : List (List ℕ)) → said_by before lines ≡ Some said → Follows before said
-follows before said [] e = record { more = []; whole = sym (some_is before said e) ∙ sym (append-nil before); good = refl }
+follows before said [] e = record { more = []; whole = sym (some_is before said e) ∙ sym (append-nil before); good = refl; staged = tt }
 follows before said (line ∷ lines) e =
     let step = good_by (verdict before line) before said lines e in
     let rest = follows (before ++ step.0 ∷ []) said lines step.2 in
+    let stands = form_staged before (stage_after before) (form_at (stage_after before) (cut_at_spaces line)) step.0 (form_is (stage_after before) (cut_at_spaces line)) step.1 in
     record {
       more = step.0 ∷ rest.more;
       whole = rest.whole ∙ append_assoc before (step.0 ∷ []) rest.more;
       good = and_from _ _ (form_good before (form_at (stage_after before) (cut_at_spaces line)) step.0 step.1) rest.good;
+      staged = (stands.0, stands.1, rest.staged);
     }
 
 -- a text that says something says good lines
 pub says_good : (bytes : List ℕ) (said : List (Said ℕ)) → Says bytes said → are_good [] said ≡ true
 says_good bytes said s = let f = follows [] said s.lines s.says in subst (λ (l : List (Said ℕ)). are_good [] l ≡ true) (sym f.whole) f.good
+
+-- and each in its part
+pub says_staged : (bytes : List ℕ) (said : List (Said ℕ)) → Says bytes said → AreStaged [] said
+says_staged bytes said s = let f = follows [] said s.lines s.says in subst (λ (l : List (Said ℕ)). AreStaged [] l) (sym f.whole) f.staged
 
 -- the record that says this, with the image by its place
 abbrev entry_of : List (List ℕ) → Said ℕ → Option Record

@@ -1,8 +1,11 @@
 pub mod Exclusive
+pub mod Forms
 pub mod Images
 pub mod Inverse
 pub mod Joined
 pub mod Lines
+pub mod Rebuilt
+pub mod Scanned
 pub mod Spelled
 pub mod Staged
 pub mod Telling

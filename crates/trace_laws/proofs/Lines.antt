@@ -26,7 +26,7 @@ is_short (ShortHeader cpus) = true
 is_short _ = false
 
 -- a test of each is a test of every one
-each : {A : Type 0} (test : A → Bool) (xs : List A) → every test xs ≡ true → AllByRecursion (λ x. test x ≡ true) xs
+pub each : {A : Type 0} (test : A → Bool) (xs : List A) → every test xs ≡ true → AllByRecursion (λ x. test x ≡ true) xs
 each test [] h = tt
 each test (x ∷ []) h = (h, tt)
 each test (x ∷ y ∷ more) h = let p = and_parts (test x) (every test (y ∷ more)) h in (p.0, each test (y ∷ more) p.1)

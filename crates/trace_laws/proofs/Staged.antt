@@ -71,13 +71,13 @@ pub line_in_body : (images : List (List ℕ)) (line : Line) → IsBodyLine (line
 line_in_body images (Sample cpu key) = record { body = refl; long = refl; no_end = refl }
 line_in_body images (Rec entry) = record_in_body images entry
 
-at_body : (first : Said ℕ) (more : List (Said ℕ)) → list_any is_end (first ∷ more) ≡ false → stage_after (first ∷ more) ≡ AtBody
+pub at_body : (first : Said ℕ) (more : List (Said ℕ)) → list_any is_end (first ∷ more) ≡ false → stage_after (first ∷ more) ≡ AtBody
 at_body first more h = rw h refl
 
-at_schedule : (first : Said ℕ) (more : List (Said ℕ)) → list_any is_end (first ∷ more) ≡ true → stage_after (first ∷ more) ≡ AtSchedule
+pub at_schedule : (first : Said ℕ) (more : List (Said ℕ)) → list_any is_end (first ∷ more) ≡ true → stage_after (first ∷ more) ≡ AtSchedule
 at_schedule first more h = rw h refl
 
-no_end_more : (before : List (Said ℕ)) (said : Said ℕ) → list_any is_end before ≡ false → is_end said ≡ false → list_any is_end (before ++ said ∷ []) ≡ false
+pub no_end_more : (before : List (Said ℕ)) (said : Said ℕ) → list_any is_end before ≡ false → is_end said ≡ false → list_any is_end (before ++ said ∷ []) ≡ false
 no_end_more before said h e = list_any-append is_end before (said ∷ []) ∙ or_from _ _ h (or_from _ _ e refl)
 
 body_staged : (first : Said ℕ) (before : List (Said ℕ)) (images : List (List ℕ)) (lines : List Line) (rest : List (Said ℕ)) → list_any is_end (first ∷ before) ≡ false
