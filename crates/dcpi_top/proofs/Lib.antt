@@ -1,2 +1,2 @@
-pub mod Exclusive
+pub mod Told
 pub mod Telling

@@ -7,7 +7,7 @@ use Rattle.outside_io.specs.Causes.{Rose}
 use Rattle.outside_io.specs.Prefix.{AppendsPrefix}
 use Rattle.trace_model.specs.declared.reasons.TraceWhy.{TraceWhy}
 use Rattle.trace_model.specs.Grammar.{FirstBad}
-use Rattle.trace_model.specs.Recording.{Recording, Reads}
+use Rattle.trace_laws.specs.Readings.{IsTrace, IsRefused}
 use Rattle.dcpi_top.specs.Messages.{Tells, bad_line, bad_start}
 use Rattle.dcpi_top.specs.Plains.{IsPlainTextOf}
 
@@ -30,7 +30,12 @@ pub record TellsBad (input old new : Option (List ℕ)) (before now : ℕ) : Typ
   pub first_bad : IfSome input (λ bytes. FirstBad bytes number why)
   pub told : Tells (bad_line number why) bad_start old new before now
 
--- the bytes of the input are told, and are a trace
-abbrev pub IsTrace : Option (List ℕ) → Type 0
-IsTrace None = ⊥
-IsTrace (Some bytes) = (r : Recording) × Reads bytes r
+-- the bytes of the input are told, and read as a trace
+abbrev pub IsToldTrace : Option (List ℕ) → Type 0
+IsToldTrace None = ⊥
+IsToldTrace (Some bytes) = IsTrace bytes
+
+-- the bytes of the input are told, and have a first bad line
+abbrev pub IsToldRefused : Option (List ℕ) → Type 0
+IsToldRefused None = ⊥
+IsToldRefused (Some bytes) = IsRefused bytes

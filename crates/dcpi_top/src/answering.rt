@@ -1,7 +1,7 @@
 ghost use Rattle.std.specs.Prelude.{◌≡◌, ◌≢◌, ◌⊎◌, ◌↔◌, map, None, string_bytes};
 ghost use Rattle.std.specs.Io.KnownBytes.{IsAtEnd};
 ghost use Rattle.outside_io.specs.Causes.{Rose};
-ghost use Rattle.dcpi_top.specs.Answering.{IsTrace, Prints, PrintsFront, TellsBad};
+ghost use Rattle.dcpi_top.specs.Answering.{IsToldRefused, IsToldTrace, Prints, PrintsFront, TellsBad};
 ghost use Rattle.dcpi_top.specs.Commands.{command_of};
 ghost use Rattle.dcpi_top.specs.Messages.{Tells, line_of};
 
@@ -10,6 +10,7 @@ use crate::messages::{say, say_bad};
 use crate::plains::plain;
 use outside_io::{Sink, Source, put_all};
 use std::alloc::Global;
+use trace_laws::one_reading;
 use trace_text::TraceRefusal;
 
 /// Serves the words behind the program's name and answers the status: 0 where the text was written, 1 where the words
@@ -34,8 +35,10 @@ pub fn dcpi_still<S: Source, W: Sink, E: Sink>(
     ensures partial { result ≡ 5 → PrintsFront (S.left source.old) (W.written out.old) (W.written out.new) }
     ensures silent { result ≢ 0 → result ≢ 5 → W.written out.new ≡ W.written out.old }
     ensures message { result ≢ 0 → result ≢ 2 → Tells (line_of result) (line_of result) (E.written err.old) (E.written err.new) (E.faults err.old) (E.faults err.new) }
-    ensures complete { IsTrace (S.left source.old) → command_of (map string_bytes words.now.items) ≢ None → ((Rose (S.faults source.old) (S.faults source.new)) → ⊥) → ((Rose (W.faults out.old) (W.faults out.new)) → ⊥) → (result ≡ 0) ⊎ (result ≡ 6) }
+    ensures refuses { IsToldRefused (S.left source.old) → command_of (map string_bytes words.now.items) ≢ None → ((Rose (S.faults source.old) (S.faults source.new)) → ⊥) → (result ≡ 2) ⊎ (result ≡ 6) }
+    ensures complete { IsToldTrace (S.left source.old) → command_of (map string_bytes words.now.items) ≢ None → ((Rose (S.faults source.old) (S.faults source.new)) → ⊥) → ((Rose (W.faults out.old) (W.faults out.new)) → ⊥) → (result ≡ 0) ⊎ (result ≡ 6) }
 {
+    one_reading();
     match words_of(words) {
         None => {
             say(err, b"dcpi: usage\n");
