@@ -112,7 +112,7 @@ entry_of images (Turned cpu) = None
 entry_of images (Polled cpu cell) = None
 entry_of images Advanced = None
 
-named_below : (images : List (List ℕ)) (index : ℕ) → is_name (name_at images index) ≡ true → index < length images
+pub named_below : (images : List (List ℕ)) (index : ℕ) → is_name (name_at images index) ≡ true → index < length images
 named_below [] index h = absurd (false≢true h)
 named_below (image ∷ images) zero h = omega arith
 named_below (image ∷ images) (suc index) h = omega (arith, named_below images index h)

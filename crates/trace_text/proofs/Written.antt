@@ -18,16 +18,12 @@ use Rattle.trace_model.specs.Said.{Said, LongHeader, Ended, every, tested, is_ti
 use Rattle.trace_model.specs.Grammar.{first_that_applies, value_tests}
 use Rattle.trace_model.specs.Recording.{are_good, name_at, record_said, line_said, step_said, said_in, trace_text}
 use Rattle.trace_model.specs.Traces.{recording_of}
+use Rattle.trace_laws.proofs.Inverse.{named_below}
 use Rattle.trace_laws.proofs.Telling.{all_clear}
 use Rattle.trace_text.specs.State.{is_among, line_is_among}
 use Rattle.trace_text.specs.Writing.{header_text, sizes_text}
 
 -- a name is at an index of the list
-named_below : (images : List (List ℕ)) (index : ℕ) → is_name (name_at images index) ≡ true → index < length images
-named_below [] index h = absurd (false≢true h)
-named_below (image ∷ images) zero h = omega arith
-named_below (image ∷ images) (suc index) h = omega (arith, named_below images index h)
-
 named_within : (images : List (List ℕ)) (index : ℕ) → is_name (name_at images index) ≡ true → nat_lt index (length images) ≡ true
 named_within images index h = lt-ltb index (length images) (named_below images index h)
 
