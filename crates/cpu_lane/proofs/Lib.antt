@@ -1,0 +1,7 @@
+pub mod Handing
+pub mod Looking
+pub mod Readying
+pub mod Sampling
+pub mod Turning
+pub mod Keeping
+pub mod Running

@@ -1,0 +1,230 @@
+use Rattle.std.proofs.Common.{◌≡◌, ℕ, ◌+◌, ◌/◌, ◌<◌, ◌≤◌, List, [], ◌∷◌, length, drop, refl, sym, ◌∙◌, ap, subst, arith, true, false, Some, None, Option, eqb, ◌&&◌, length-append}
+use Rattle.std.specs.Prelude.{is_some}
+use Rattle.std.proofs.lemmas.Bool.{cond_both}
+use Rattle.sample_key.specs.Counted.{Counted}
+use Rattle.sample_key.specs.Marks.{due}
+use Rattle.sample_key.specs.declared.keys.Key.{Key}
+use Rattle.driver_model.specs.Table.{Table}
+use Rattle.driver_model.specs.Sides.{Side, is_even, side_look_buffer}
+use Rattle.driver_model.specs.Driver.{Setup, Buffers, Driver, World, Two, activate, other, word_at, look_other, look_both, find_buffer, take_next}
+use Rattle.driver_model.specs.Invariant.{table_entries, active_entries, is_active}
+use Rattle.driver_laws.specs.Turns.{RoomFor}
+use Rattle.driver_laws.proofs.Lists.{next_below}
+use Rattle.driver_laws.proofs.Marks.{due_next}
+use Rattle.overflow_pair.specs.Contents.{Contents, pushed}
+use Rattle.lane_side.specs.Fixed.{Fixed}
+use Rattle.cpu_lane.specs.Steps.{Is, with_active, looked}
+use Rattle.cpu_lane.specs.Ready.{Ready, CanHand, CanCount, IsDue}
+use Rattle.cpu_lane.proofs.Handing.{by_number, less_room, can_hand}
+
+-- a turn stays ready after its looks
+
+-- buffer 0 came back
+ready_back0 : (u : Setup) (f : Fixed) (d : Driver) (v : Side) (w : ℕ) → Ready u f d v → d.pair.active ≡ None → is_even w ≡ true
+    → Ready u f (activate d 0) (side_look_buffer v 0 w)
+ready_back0 u f d v w r none even =
+    let no : (n : ℕ) → is_active d.pair n ≡ false = λ n. ap (λ (a : Option (List Counted)). is_some a && eqb d.pair.active_number n) none in
+    record {
+      setup = r.setup;
+      side = record { cpu = r.side.cpu; samples = r.side.samples; size = r.side.size };
+      room = less_room 2 2 (length (table_entries d.table) + length (active_entries d.pair.active) + 1) (length (table_entries d.table) + 0 + 1) v.room (omega arith) (omega arith) r.room;
+      holds0 = even;
+      holds1 = r.holds1 ∙ no 1;
+      holds2 = r.holds2;
+      table = r.table;
+      active = r.buffer;
+      buffer = r.buffer;
+      number = omega arith;
+      next = r.next;
+      hands0 = r.hands0;
+      hands1 = r.hands1;
+      hands2 = r.hands2;
+      few0 = r.few0;
+      few1 = r.few1;
+      few2 = r.few2;
+      answered = r.answered;
+      at = r.at;
+      held = omega (arith, r.held);
+      all = r.all;
+    }
+
+-- buffer 0 is out
+ready_out0 : (u : Setup) (f : Fixed) (d : Driver) (v : Side) (w : ℕ) → Ready u f d v → d.pair.active ≡ None → is_even w ≡ false
+    → Ready u f d (side_look_buffer v 0 w)
+ready_out0 u f d v w r none odd =
+    let no : (n : ℕ) → is_active d.pair n ≡ false = λ n. ap (λ (a : Option (List Counted)). is_some a && eqb d.pair.active_number n) none in
+    record {
+      setup = r.setup;
+      side = record { cpu = r.side.cpu; samples = r.side.samples; size = r.side.size };
+      room = r.room;
+      holds0 = odd ∙ sym (no 0);
+      holds1 = r.holds1;
+      holds2 = r.holds2;
+      table = r.table;
+      active = r.active;
+      buffer = r.buffer;
+      number = r.number;
+      next = r.next;
+      hands0 = r.hands0;
+      hands1 = r.hands1;
+      hands2 = r.hands2;
+      few0 = r.few0;
+      few1 = r.few1;
+      few2 = r.few2;
+      answered = r.answered;
+      at = r.at;
+      held = r.held;
+      all = r.all;
+    }
+
+-- buffer 1 came back
+ready_back1 : (u : Setup) (f : Fixed) (d : Driver) (v : Side) (w : ℕ) → Ready u f d v → d.pair.active ≡ None → is_even w ≡ true
+    → Ready u f (activate d 1) (side_look_buffer v 1 w)
+ready_back1 u f d v w r none even =
+    let no : (n : ℕ) → is_active d.pair n ≡ false = λ n. ap (λ (a : Option (List Counted)). is_some a && eqb d.pair.active_number n) none in
+    record {
+      setup = r.setup;
+      side = record { cpu = r.side.cpu; samples = r.side.samples; size = r.side.size };
+      room = less_room 2 2 (length (table_entries d.table) + length (active_entries d.pair.active) + 1) (length (table_entries d.table) + 0 + 1) v.room (omega arith) (omega arith) r.room;
+      holds0 = r.holds0 ∙ no 0;
+      holds1 = even;
+      holds2 = r.holds2;
+      table = r.table;
+      active = r.buffer;
+      buffer = r.buffer;
+      number = omega arith;
+      next = r.next;
+      hands0 = r.hands0;
+      hands1 = r.hands1;
+      hands2 = r.hands2;
+      few0 = r.few0;
+      few1 = r.few1;
+      few2 = r.few2;
+      answered = r.answered;
+      at = r.at;
+      held = omega (arith, r.held);
+      all = r.all;
+    }
+
+-- buffer 1 is out
+ready_out1 : (u : Setup) (f : Fixed) (d : Driver) (v : Side) (w : ℕ) → Ready u f d v → d.pair.active ≡ None → is_even w ≡ false
+    → Ready u f d (side_look_buffer v 1 w)
+ready_out1 u f d v w r none odd =
+    let no : (n : ℕ) → is_active d.pair n ≡ false = λ n. ap (λ (a : Option (List Counted)). is_some a && eqb d.pair.active_number n) none in
+    record {
+      setup = r.setup;
+      side = record { cpu = r.side.cpu; samples = r.side.samples; size = r.side.size };
+      room = r.room;
+      holds0 = r.holds0;
+      holds1 = odd ∙ sym (no 1);
+      holds2 = r.holds2;
+      table = r.table;
+      active = r.active;
+      buffer = r.buffer;
+      number = r.number;
+      next = r.next;
+      hands0 = r.hands0;
+      hands1 = r.hands1;
+      hands2 = r.hands2;
+      few0 = r.few0;
+      few1 = r.few1;
+      few2 = r.few2;
+      answered = r.answered;
+      at = r.at;
+      held = r.held;
+      all = r.all;
+    }
+
+-- both were looked at, buffer 0 first
+ready_both0 : (u : Setup) (f : Fixed) (h : Two) (d : Driver) (v : Side) → Ready u f d v → d.pair.active ≡ None → Ready u f (look_both h d v 0).driver (look_both h d v 0).side
+ready_both0 u f h d v r none =
+    let x = side_look_buffer v 0 h.first in
+    cond_both (is_even h.first) (record { driver = activate d 0; side = x }) (look_other h d x 1) (λ (y : World). Ready u f y.driver y.side)
+    (λ even. ready_back0 u f d v h.first r none even)
+    (λ odd. let s = ready_out0 u f d v h.first r none odd in
+    cond_both (is_even h.second) (activate d 1) d (λ (e : Driver). Ready u f e (side_look_buffer x 1 h.second))
+    (λ even. ready_back1 u f d x h.second s none even) (λ out. ready_out1 u f d x h.second s none out))
+
+-- buffer 1 first
+ready_both1 : (u : Setup) (f : Fixed) (h : Two) (d : Driver) (v : Side) → Ready u f d v → d.pair.active ≡ None → Ready u f (look_both h d v 1).driver (look_both h d v 1).side
+ready_both1 u f h d v r none =
+    let x = side_look_buffer v 1 h.second in
+    cond_both (is_even h.second) (record { driver = activate d 1; side = x }) (look_other h d x 0) (λ (y : World). Ready u f y.driver y.side)
+    (λ even. ready_back1 u f d v h.second r none even)
+    (λ odd. let s = ready_out1 u f d v h.second r none odd in
+    cond_both (is_even h.first) (activate d 0) d (λ (e : Driver). Ready u f e (side_look_buffer x 0 h.first))
+    (λ even. ready_back0 u f d x h.first s none even) (λ out. ready_out0 u f d x h.first s none out))
+
+-- a buffer was looked for where none was active
+pub ready_find : (u : Setup) (f : Fixed) (h : Two) (d : Driver) (v : Side) (a : Option (List Counted)) → Ready u f d v → d.pair.active ≡ a → Ready u f (find_buffer h d v a).driver (find_buffer h d v a).side
+ready_find u f h d v (Some es) r active = r
+ready_find u f h d v None r active =
+    by_number (λ (n : ℕ). Ready u f (look_both h d v n).driver (look_both h d v n).side) d.pair.next r.next (ready_both0 u f h d v r active) (ready_both1 u f h d v r active)
+
+-- what looks for a buffer leave
+pub record Stays (d : Driver) (v : Side) (y : World) : Type 0 where
+  pub at : y.driver.at ≡ d.at
+  pub table : y.driver.table ≡ d.table
+  pub heard : y.side.heard ≡ v.heard
+
+look_stays : (d : Driver) (v : Side) (b w : ℕ) → Stays d v (looked d v b w)
+look_stays d v b w =
+    let heard : (side_look_buffer v b w).heard ≡ v.heard = cond_both (eqb b 0) (side_look_buffer v 0 w) (side_look_buffer v 1 w) (λ (x : Side). x.heard ≡ v.heard) (λ e. refl) (λ e. refl) in
+    cond_both (is_even w) (activate d b) d (λ (e : Driver). Stays d v (record { driver = e; side = side_look_buffer v b w }))
+    (λ even. record { at = refl; table = refl; heard = heard }) (λ odd. record { at = refl; table = refl; heard = heard })
+
+pub find_stays : (h : Two) (d : Driver) (v : Side) (a : Option (List Counted)) → Stays d v (find_buffer h d v a)
+find_stays h d v (Some es) = record { at = refl; table = refl; heard = refl }
+find_stays h d v None =
+    let b = d.pair.next in let x = side_look_buffer v b (word_at h b) in
+    let heard : x.heard ≡ v.heard = cond_both (eqb b 0) (side_look_buffer v 0 (word_at h b)) (side_look_buffer v 1 (word_at h b)) (λ (x : Side). x.heard ≡ v.heard) (λ e. refl) (λ e. refl) in
+    cond_both (is_even (word_at h b)) (record { driver = activate d b; side = x }) (look_other h d x (other b)) (Stays d v)
+    (λ even. record { at = refl; table = refl; heard = heard })
+    (λ odd. let s = look_stays d x (other b) (word_at h (other b)) in record { at = s.at; table = s.table; heard = s.heard ∙ heard })
+
+-- where a buffer was found, or both are out, the driver is that of the definition
+pub found_ready : (u : Setup) (f g : Fixed) (h : Two) (d : Driver) (v : Side) (e : Driver) (w : Side) → Ready u f d v → Is (find_buffer h d v d.pair.active) e w → g ≡ f → Ready u g e w
+found_ready u f g h d v e w r is same =
+    let y = find_buffer h d v d.pair.active in
+    subst (λ (k : Fixed). Ready u k e w) (sym same) (subst (λ (z : Driver). Ready u f z w) (sym is.0) (subst (λ (z : Side). Ready u f y.driver z) (sym is.1)
+    (ready_find u f h d v d.pair.active r refl)))
+
+-- what was found leaves the samples, the table and the bell
+pub found_stays : (h : Two) (d : Driver) (v : Side) (e : Driver) (w : Side) → Is (find_buffer h d v d.pair.active) e w → (e.at ≡ d.at) × (e.table ≡ d.table) × (w.heard ≡ v.heard)
+found_stays h d v e w is =
+    let s = find_stays h d v d.pair.active in
+    (ap (λ (z : Driver). z.at) is.0 ∙ s.at, ap (λ (z : Driver). z.table) is.0 ∙ s.table, ap (λ (z : Side). z.heard) is.1 ∙ s.heard)
+
+-- the next sample is still due
+pub still_due : (u : Setup) (d e : Driver) (v w : Side) (k : Key) → e.at ≡ d.at → w.heard ≡ v.heard → IsDue u d v k → IsDue u e w k
+still_due u d e v w k at heard n =
+    (n.0, n.1, subst (λ (m : ℕ). drop m u.samples ≡ n.0 ∷ n.1) (sym at) n.2, n.3, subst (λ (m : ℕ). n.0.mark ≤ m / 2) (sym heard) n.4)
+
+-- one sample more can be counted, and is left
+pub can_count : (u : Setup) (f : Fixed) (d : Driver) (v : Side) (k : Key) → Ready u f d v → IsDue u d v k → CanCount d × (d.at < length u.samples)
+can_count u f d v k r n =
+    let left : d.at < length u.samples = next_below d.at u.samples n.0 n.1 n.2 in
+    (record { at = omega (arith, left, r.setup.few); all = r.all }, left)
+
+-- a sample more was taken
+taken : (d : Driver) (k : Key) (o : Option Table) → ((take_next d k o).at ≡ d.at + 1) × ((take_next d k o).pair ≡ d.pair)
+taken d k None = (refl, refl)
+taken d k (Some t) = (refl, refl)
+
+-- what a hand asks of the buffers
+abbrev HandsFrom : Side → ℕ → Buffers → Type 0
+HandsFrom v at p = (p.active_number ≤ 1) × (v.first.holds ≡ eqb p.active_number 0) × (v.second.holds ≡ eqb p.active_number 1)
+    × (p.hands0 ≡ length v.first.handed) × (p.hands1 ≡ length v.second.handed) × (p.hands0 ≤ at) × (p.hands1 ≤ at)
+
+-- the buffer that the sample filled can be handed
+pub can_push : (u : Setup) (f : Fixed) (d e : Driver) (v : Side) (b c : Contents) (x : Counted) (k : Key) (o : Option Table) → Ready u f (with_active d b.entries) v → IsDue u d v k
+    → e ≡ take_next d k o → c ≡ pushed b x → b.size ≡ u.size → CanHand u f e v c
+can_push u f d e v b c x k o r n is pushes size =
+    let t = taken d k o in
+    let at : e.at ≡ d.at + 1 = ap (λ (z : Driver). z.at) is ∙ t.0 in
+    let pair : e.pair ≡ d.pair = ap (λ (z : Driver). z.pair) is ∙ t.1 in
+    let more : length c.entries ≡ length b.entries + 1 = ap (λ (z : Contents). length z.entries) pushes ∙ length-append b.entries (x ∷ []) in
+    let up : d.at + 1 ≤ due u.samples (v.heard / 2) = due_next u.samples 0 d.at (v.heard / 2) n.0 n.1 r.setup.rising n.2 n.4 in
+    let room : RoomFor 1 (length c.entries) v.room = less_room 2 1 (length (table_entries d.table) + length b.entries + 1) (length c.entries) v.room (omega arith) (omega (arith, more)) r.room in
+    let h : HandsFrom v e.at e.pair = subst (λ (p : Buffers). HandsFrom v e.at p) (sym pair) (r.number, r.holds0, r.holds1, r.hands0, r.hands1, omega (arith, r.few0, at), omega (arith, r.few1, at)) in
+    can_hand u f e v c r.setup r.side h.0 h.1 h.2 h.3 h.4 h.5 h.6 (omega (arith, up, at)) (omega (arith, r.held, more, at)) room (ap (λ (z : Contents). z.size) pushes ∙ size)

@@ -1,0 +1,4 @@
+pub mod Seen
+pub mod Steps
+pub mod Ready
+pub mod Runs

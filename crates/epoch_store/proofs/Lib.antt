@@ -1,0 +1,17 @@
+pub mod Causes
+pub mod Crashes
+pub mod Halving
+pub mod Images
+pub mod Inserting
+pub mod LatestSeal
+pub mod Lists
+pub mod Names
+pub mod NextHead
+pub mod Order
+pub mod Phases
+pub mod RowOrders
+pub mod SealNames
+pub mod Sealed
+pub mod Stays
+pub mod Values
+pub mod Written
