@@ -94,8 +94,8 @@ fn count<K: Ord + Copy + Drop>(counts: &mut BTreeMap<K, u64>, key: K) -> Result<
     requires { unwrap_or (lookup (is_at (K.cmp key)) counts.old.entries) 0 + 1 < 2 ^ 64 }
     ensures { OnOk result (counts.new.entries ≡ insert_entry K.cmp counts.old.entries key (unwrap_or (lookup (is_at (K.cmp key)) counts.old.entries) 0 + 1)) }
 {
-    let before = counts.get(&key).copied().unwrap_or(0);
-    counts.insert(key, before + 1)?;
+    let count = counts.entry(key)?.or_insert(0);
+    *count += 1;
     Ok(())
 }
 
