@@ -1,25 +1,28 @@
 #!/bin/sh
-# Counts a recording with `dcpi plain`, sums its listing by image, compares the sums with the list of a profiler that counted the
-# same samples itself, and then prints how `plain` compares with an unproved counter in time and memory (bench/plain.sh).
-# usage: bench/images.sh RECORDING IMAGES
-# IMAGES has a line `COUNT IMAGE` for each image, and `COUNT [unknown]` for samples that lie in none.
-# YARDSTICK is the counter, as in bench/plain.sh.
+# Compares what `dcpi plain` counts for each image of a recording with the counts that the recorder itself made, image for image,
+# and measures `dcpi plain` against the unproved counter as bench/plain.sh does: first on the recording, and then on its samples
+# alone, where no mapping is looked for, so that reading and counting are measured without the walk of the list of records.
+# usage: bench/images.sh FOLDER, with FOLDER/work.trace and FOLDER/work.images, lines `COUNT IMAGE`, `[unknown]` for samples in none
+# YARDSTICK is the counter, as for bench/plain.sh.
 set -eu
-if [ $# -ne 2 ]; then
-    echo "usage: bench/images.sh RECORDING IMAGES" >&2
-    exit 2
-fi
-here=$(cd "$(dirname "$0")" && pwd)
+folder=$(cd "$1" && pwd)
+cd "$(dirname "$0")/.."
 scratch=$(mktemp -d)
 trap 'rm -rf "$scratch"' EXIT
-recording=$(cd "$(dirname "$1")" && pwd)/$(basename "$1")
 
-# plain.sh builds the program
-"$here/plain.sh" "$recording" >"$scratch/ratios"
-"$here/../crates/dcpi/out/dcpi" plain <"$recording" >"$scratch/listing"
-awk '$1 == "k" { sums[$3] += $6 } $1 == "u" { sums["[unknown]"] += $5 } END { for (name in sums) print sums[name], name }' "$scratch/listing" |
-    sort >"$scratch/sums"
-sort "$2" >"$scratch/images"
-diff "$scratch/images" "$scratch/sums"
-echo "images   $(wc -l <"$scratch/images"), each with the same count"
-cat "$scratch/ratios"
+echo "the recording"
+bench/plain.sh "$folder/work.trace"
+
+crates/dcpi/out/dcpi plain <"$folder/work.trace" >"$scratch/counts"
+awk '
+    $1 == "k" { counts[$3] += $6 }
+    $1 == "u" { counts["[unknown]"] += $5 }
+    END { for (image in counts) print counts[image], image }
+' "$scratch/counts" | LC_ALL=C sort >"$scratch/ours"
+LC_ALL=C sort "$folder/work.images" >"$scratch/recorded"
+diff "$scratch/recorded" "$scratch/ours"
+echo "images   $(wc -l <"$scratch/ours"), each with the recorder's own count"
+
+echo "its samples alone"
+awk 'NR == 1 || $1 == "s" || $1 == "end"' "$folder/work.trace" >"$scratch/samples.trace"
+bench/plain.sh "$scratch/samples.trace"

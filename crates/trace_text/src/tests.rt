@@ -4,8 +4,6 @@ use sample_key::{Event, Key};
 use std::alloc::Global;
 use std::test::Fail;
 
-mod order;
-
 fn read(alloc: Global, texts: &[&[u8]]) -> Result<Trace, TraceRefusal> {
     let mut bytes = Vec::new(alloc);
     for text in texts {
