@@ -9,20 +9,8 @@ use Rattle.trace_model.specs.declared.notices.Record.TheVariants.{Scan, Load, Un
 use Rattle.trace_model.specs.Counting.{begins_epoch}
 use Rattle.trace_model.specs.Grammar.{first_that_applies, value_tests, is_record_too_many}
 use Rattle.trace_model.specs.Recording.{are_good, keeps_ranges, record_said}
+use Rattle.trace_model.proofs.Tests.{all_clear}
 use Rattle.trace_model.specs.Said.{Said, EpochBegun, every, tested, is_within, is_aligned, is_titled, is_record, ends_part}
-
--- no test applies
-abbrev AllClear : List (TraceWhy × Bool) → Type 0
-AllClear [] = Unit {0}
-AllClear (test ∷ tests) = (test.1 ≡ false) × AllClear tests
-
-first_clear : (why : TraceWhy) (b : Bool) (more : List (TraceWhy × Bool)) → is_none (first_that_applies ((why, b) ∷ more)) ≡ true → (b ≡ false) × (is_none (first_that_applies more) ≡ true)
-first_clear why true more h = absurd (false≢true h)
-first_clear why false more h = (refl, h)
-
-all_clear : (tests : List (TraceWhy × Bool)) → is_none (first_that_applies tests) ≡ true → AllClear tests
-all_clear [] h = tt
-all_clear (test ∷ tests) h = let p = first_clear test.0 test.1 tests h in (p.0, all_clear tests p.1)
 
 -- what a good line passes
 pub record Passes (before : List (Said ℕ)) (said : Said ℕ) : Type 0 where

@@ -17,7 +17,7 @@ use Rattle.trace_model.specs.Grammar.{first_that_applies, value_tests}
 use Rattle.trace_model.specs.Recording.{are_good, line_said, record_said, step_said, said_in}
 use Rattle.trace_model.specs.Streams.{stream_from, records_from, stream_of, records_in, IsStream}
 use Rattle.trace_model.specs.Traces.{recording_of}
-use Rattle.trace_cut.proofs.Fitting.{all_clear}
+use Rattle.trace_model.proofs.Tests.{all_clear}
 
 fails : (b c : Bool) → (b && c) ≡ false → b ≡ true → c ≡ false
 fails true c h e = h

@@ -10,16 +10,8 @@ use Rattle.trace_model.specs.declared.recordings.Trace.{Trace}
 use Rattle.trace_model.specs.Said.{Said, LongHeader, Ended}
 use Rattle.trace_model.specs.Grammar.{first_that_applies, value_tests, names_no_cpu}
 use Rattle.trace_model.specs.Recording.{are_good, line_said, step_said}
+use Rattle.trace_model.proofs.Tests.{all_clear}
 use Rattle.trace_cut.specs.Cutting.{names_below}
-
-first_clear : (why : TraceWhy) (b : Bool) (more : List (TraceWhy × Bool)) → is_none (first_that_applies ((why, b) ∷ more)) ≡ true → (b ≡ false) × (is_none (first_that_applies more) ≡ true)
-first_clear why true more h = absurd (false≢true h)
-first_clear why false more h = (refl, h)
-
--- of tests of which none is the first that applies, none applies
-pub all_clear : (tests : List (TraceWhy × Bool)) → is_none (first_that_applies tests) ≡ true → AllByRecursion (λ test. test.1 ≡ false) tests
-all_clear [] h = tt
-all_clear (test ∷ tests) h = let p = first_clear test.0 test.1 tests h in (p.0, all_clear tests p.1)
 
 has_cpu : (before : List (Said ℕ)) (said : Said ℕ) → is_none (first_that_applies (value_tests before said)) ≡ true → names_no_cpu before said ≡ false
 has_cpu before said h = (all_clear (value_tests before said) h).1.1.1.0

@@ -18,7 +18,7 @@ use Rattle.trace_model.specs.declared.notices.Step.TheVariants.{Lane, Poll, Adva
 use Rattle.trace_model.specs.Said.{Said, ShortHeader, LongHeader, Sampled, Scanned, Loaded, Unloaded, Executed, Exited, KernelMapped, Drained, Merged, EpochBegun, Ended, Turned, Polled, Advanced, every, tested, is_titled, is_end, is_sample, values_of}
 use Rattle.trace_model.specs.Grammar.{Stage, verdict, verdict_of_form, judged, where_said, said_by, Says, first_that_applies, value_tests, tests_of, form_at, stage_after, cut_at_spaces}
 use Rattle.trace_model.specs.Recording.{Recording, recording, Reads, are_good, name_at, record_said, line_said, step_said, said_in, images_in_order}
-use Rattle.trace_laws.proofs.Telling.{all_clear}
+use Rattle.trace_model.proofs.Tests.{all_clear}
 use Rattle.trace_laws.proofs.Exclusive.{says_one}
 use Rattle.trace_laws.proofs.Lines.{is_short}
 use Rattle.trace_laws.proofs.Staged.{AreStaged, stage_of, line_in_body}

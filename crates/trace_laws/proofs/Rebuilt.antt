@@ -16,7 +16,7 @@ use Rattle.trace_model.specs.Recording.{Recording, recording, are_good, line_sai
 use Rattle.trace_laws.specs.Readings.{IsTrace, IsRefused}
 use Rattle.trace_laws.proofs.Lines.{is_short, each}
 use Rattle.trace_laws.proofs.Staged.{AreStaged, IsBodyLine, stage_of, at_body, at_schedule, no_end_more}
-use Rattle.trace_laws.proofs.Telling.{all_clear}
+use Rattle.trace_model.proofs.Tests.{all_clear}
 use Rattle.trace_laws.proofs.Images.{HasImages, images_named_all, all_front}
 use Rattle.trace_laws.proofs.Inverse.{says_good, says_staged}
 use Rattle.trace_laws.proofs.Scanned.{scanned}

@@ -11,19 +11,11 @@ use Rattle.trace_model.specs.Said.{Said, ShortHeader, LongHeader, Sampled, Scann
 use Rattle.trace_model.specs.Grammar.{verdict, verdict_of_form, where_said, said_by, IsLine, cut_at_spaces, form_at, stage_after, first_that_applies, value_tests}
 use Rattle.trace_model.specs.Recording.{Reads, said_in, are_good, trace_text}
 use Rattle.trace_model.specs.Traces.{recording_of}
+use Rattle.trace_model.proofs.Tests.{all_clear}
 use Rattle.trace_laws.proofs.Spelled.{IsField}
 use Rattle.trace_laws.proofs.Joined.{cut_joined, joined_line}
 use Rattle.trace_laws.proofs.Lines.{IsLineOf, line_of, is_short}
 use Rattle.trace_laws.proofs.Staged.{AreStaged, stage_of, form_told, trace_staged, trace_ended}
-
--- no test applies
-first_clear : (why : TraceWhy) (b : Bool) (more : List (TraceWhy × Bool)) → is_none (first_that_applies ((why, b) ∷ more)) ≡ true → (b ≡ false) × (is_none (first_that_applies more) ≡ true)
-first_clear why true more h = absurd (false≢true h)
-first_clear why false more h = (refl, h)
-
-pub all_clear : (tests : List (TraceWhy × Bool)) → is_none (first_that_applies tests) ≡ true → AllByRecursion (λ test. test.1 ≡ false) tests
-all_clear [] h = tt
-all_clear (test ∷ tests) h = let p = first_clear test.0 test.1 tests h in (p.0, all_clear tests p.1)
 
 none_of : {A : Type 0} (found : Option A) → is_none found ≡ true → found ≡ None
 none_of None h = refl

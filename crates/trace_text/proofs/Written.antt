@@ -19,7 +19,7 @@ use Rattle.trace_model.specs.Grammar.{first_that_applies, value_tests}
 use Rattle.trace_model.specs.Recording.{are_good, name_at, record_said, line_said, step_said, said_in, trace_text}
 use Rattle.trace_model.specs.Traces.{recording_of}
 use Rattle.trace_laws.proofs.Inverse.{named_below}
-use Rattle.trace_laws.proofs.Telling.{all_clear}
+use Rattle.trace_model.proofs.Tests.{all_clear}
 use Rattle.trace_text.specs.State.{is_among, line_is_among}
 use Rattle.trace_text.specs.Writing.{header_text, sizes_text}
 
