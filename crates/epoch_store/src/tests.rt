@@ -114,6 +114,21 @@ fn epoch_of(last: u32, epoch: u32) -> Result<u32, Fail>
     Ok(epoch)
 }
 
+/// No image that is new.
+fn no_names(alloc: Global, db: &Database) -> Result<Vec<Name>, Fail>
+    ensures { IfOk result (λ names. AreImages ((head_of db.now).names ++ names.items)) }
+{
+    let _images = db.catalog().names();
+    Ok(Vec::new(alloc))
+}
+
+/// How many images there are with these.
+fn image_count(db: &Database, names: &[Name]) -> usize
+    ensures { result ≡ length ((head_of db.now).names ++ names.now) }
+{
+    db.catalog().names().len() + names.len()
+}
+
 /// A change with one new image, the profile of image 0 in an epoch, and a part.
 fn first_change(
     alloc: Global,
@@ -126,7 +141,7 @@ fn first_change(
 {
     let epoch = epoch_of(db.last_epoch(), epoch)?;
     let names = new_names(alloc, db.catalog(), "A")?;
-    let images = db.catalog().names().len() + names.len();
+    let images = image_count(db, &names);
     let known = known_of(alloc, epoch, images, 0, profile)?;
     let segment = part_of(alloc, db.runs(), part)?;
     Ok(Change {
@@ -149,13 +164,14 @@ fn second_change(
     ensures { IfOk result (λ c. Fits (head_of db.now).epoch (head_of db.now).runs (head_of db.now).names c) }
 {
     let epoch = db.last_epoch();
-    let images = db.catalog().names().len();
+    let names = no_names(alloc, db)?;
+    let images = image_count(db, &names);
     let known = known_of(alloc, epoch, images, epoch, known)?;
     let unknown = unknown_of(alloc, epoch, epoch, unknown)?;
     let segment = part_of(alloc, db.runs(), part)?;
     Ok(Change {
         epoch,
-        names: Vec::new(alloc),
+        names,
         known,
         unknown,
         segment,
