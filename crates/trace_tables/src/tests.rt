@@ -3,7 +3,7 @@ use sample_key::{Event, Key, Marked};
 use std::alloc::Global;
 use std::process::Abort;
 use std::test::Fail;
-use trace_cut::cut;
+use trace_cut::{cut, streams_are_in_order};
 use trace_text::{PutError, Record, Trace, TraceRefusal, TraceWhy, read_trace, write_trace};
 
 /// A mapping, a sample at its last address, and one behind it.
@@ -253,6 +253,7 @@ fn limits_are_kept(rt: HostRuntime) -> Result<(), Fail> {
 fn a_trace_is_cut_by_processor(rt: HostRuntime) -> Result<(), Fail> {
     let trace = read(rt.alloc(), EACH_FORM)?;
     let streams = cut(rt.alloc(), &trace)?;
+    streams_are_in_order(&trace);
     let first = Key {
         pid: 7,
         pc: 0x120000010,

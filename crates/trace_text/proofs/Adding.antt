@@ -1,5 +1,5 @@
 -- The body after one more line.
-use Rattle.std.proofs.Common.{◌≡◌, ℕ, ◌+◌, ◌<◌, ◌≤◌, ◌&&◌, Bool, true, false, cond, List, [], ◌∷◌, ◌++◌, length, map, refl, ap, sym, subst, ◌∙◌, arith, Option, Some, None, append_assoc}
+use Rattle.std.proofs.Common.{◌≡◌, ℕ, ◌+◌, ◌≤◌, ◌&&◌, Bool, true, false, cond, List, [], ◌∷◌, ◌++◌, length, map, refl, ap, sym, subst, ◌∙◌, arith, Some, None}
 use Rattle.std.specs.List.{list_all, fold}
 use Rattle.std.proofs.lemmas.Bool.{and_from}
 use Rattle.std.proofs.lemmas.List.{map-append, length-append, append-nil}
@@ -10,7 +10,7 @@ use Rattle.sample_key.specs.declared.events.Event.{Event}
 use Rattle.trace_model.specs.declared.notices.Record.{Record}
 use Rattle.trace_model.specs.declared.notices.Record.TheVariants.{Scan, Load, Unload, Exec, Exit, Kernel, Drain, Merge, Epoch}
 use Rattle.trace_model.specs.declared.notices.Line.{Line}
-use Rattle.trace_model.specs.declared.notices.Line.TheVariants.{Sample, Rec}
+use Rattle.trace_model.specs.declared.notices.Line.TheVariants.{Rec}
 use Rattle.trace_model.specs.Said.{Said, Sampled, images_named, ends_part, may_precede_scan}
 use Rattle.trace_model.specs.Grammar.{first_that_applies, value_tests}
 use Rattle.trace_model.specs.Recording.{line_said, record_said, name_at, with_name}
@@ -18,9 +18,9 @@ use Rattle.trace_text.specs.declared.body_state.Body.{Body}
 use Rattle.trace_text.specs.Judging.{size_shown}
 use Rattle.trace_text.specs.Entries.{entry_ends_part, entry_may_precede_scan}
 use Rattle.trace_text.specs.State.{IsSound, Tracks, said_in_body, index_from, is_among, line_is_among}
-use Rattle.trace_text.specs.Taking.{Names, NamesImage, PushesRecord, PushesSample, IsNamed, IsIndexed}
+use Rattle.trace_text.specs.Taking.{Names, NamesImage, PushesRecord, PushesSample, IsIndexed}
 use Rattle.std.specs.Ordering.{is_eq}
-use Rattle.trace_text.proofs.Index.{found, absent, tied_push, with_known, with_new, last_named, IsFound}
+use Rattle.trace_text.proofs.Index.{found, absent, tied_push, with_known, with_new, last_named}
 use Rattle.trace_text.proofs.Tracking.{tracks_record, tracks_sample, lines_front, lines_among_more, with_name_front, all_push}
 
 -- the kind of a record does not hang on its image's name

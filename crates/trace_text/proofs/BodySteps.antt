@@ -1,23 +1,20 @@
 -- One line of the body: judged, and taken.
-use Rattle.std.proofs.Common.{◌≡◌, ℕ, ◌+◌, ◌<◌, ◌≤◌, ◌&&◌, ◌||◌, Bool, true, false, not, cond, List, [], ◌∷◌, ◌++◌, length, map, refl, ap, sym, subst, ◌∙◌, arith, Option, Some, None, Result, Ok, Err, if◌then◌else◌, nat_le}
+use Rattle.std.proofs.Common.{◌≡◌, ℕ, ◌<◌, Bool, true, false, List, [], ◌∷◌, ◌++◌, map, refl, ap, sym, subst, ◌∙◌, arith, Option, Some, None, Ok, Err, if◌then◌else◌}
 use Rattle.std.specs.List.{list_any, count_by}
-use Rattle.std.specs.Option.{option_map}
-use Rattle.std.proofs.lemmas.Bool.{leb-false, or_parts, true≢false, false≢true}
+use Rattle.std.proofs.lemmas.Bool.{leb-false, or_parts, false≢true}
 use Rattle.sample_key.specs.declared.events.Event.{Event}
 use Rattle.trace_model.specs.declared.reasons.TraceWhy.{TraceWhy}
 use Rattle.trace_model.specs.declared.reasons.TraceWhy.TheVariants.{BadWord, BadNumber, OutOfRange, Unaligned, BadName}
-use Rattle.trace_model.specs.declared.notices.Record.{Record}
 use Rattle.trace_model.specs.declared.notices.Record.TheVariants.{Scan, Load, Unload, Exec, Exit, Kernel, Drain, Merge, Epoch}
 use Rattle.trace_model.specs.declared.notices.Line.{Line}
 use Rattle.trace_model.specs.declared.notices.Line.TheVariants.{Sample, Rec}
-use Rattle.trace_model.specs.Said.{Said, ShortHeader, LongHeader, Sampled, Scanned, Loaded, Unloaded, Executed, Exited, KernelMapped, Drained, Merged, EpochBegun, Ended, Turned, Polled, Advanced, every, tested, is_spelled, is_within, is_aligned, is_titled, is_record, is_end, values_of}
+use Rattle.trace_model.specs.Said.{Said, Ended, every, tested, is_spelled, is_aligned, is_titled, is_record, is_end, values_of}
 use Rattle.trace_model.specs.Grammar.{verdict, verdict_on, verdict_of_form, stage_after, form_at, body_of, cut_at_spaces, AtBody, AtSchedule, why_no_form, judged, first_that_applies, value_tests, context_tests, is_record_too_many}
-use Rattle.trace_model.specs.Recording.{line_said, record_said}
-use Rattle.trace_text.specs.declared.body.BodyForm.{BodyForm}
+use Rattle.trace_model.specs.Recording.{line_said}
 use Rattle.trace_text.specs.declared.body.BodyValues.{BodyValues}
 use Rattle.trace_text.specs.declared.body.BodyValues.TheVariants as values
 use Rattle.trace_text.specs.declared.body_state.Body.{Body}
-use Rattle.trace_text.specs.Forms.{body_shown, values_shown, read_field}
+use Rattle.trace_text.specs.Forms.{values_shown, read_field}
 use Rattle.trace_text.specs.State.{IsSound, said_in_body}
 use Rattle.trace_text.specs.declared.body_state.Taken.{Taken}
 use Rattle.trace_text.specs.declared.body_state.Taken.TheVariants as kinds
@@ -82,10 +79,10 @@ by_kind b v w x e h = h ∙ ap (λ (u : BodyValues). first_that_applies (context
 -- values that are neither the end nor a sample are a record
 pub entry_of_values : (v : BodyValues) → (v ≡ values.End → ⊥) → ((cpu pid pc : ℕ) (event : Event) → v ≡ values.Sample cpu pid pc event → ⊥) → is_record (values_shown v) ≡ true
 entry_of_values (values.Sample cpu pid pc event) e s = absurd (s cpu pid pc event refl)
-entry_of_values (values.Scan pid base size image) e s = refl
-entry_of_values (values.Load pid base size image) e s = refl
+entry_of_values (values.Scan m) e s = refl
+entry_of_values (values.Load m) e s = refl
 entry_of_values (values.Unload pid base size) e s = refl
-entry_of_values (values.Exec pid base size image) e s = refl
+entry_of_values (values.Exec m) e s = refl
 entry_of_values (values.Exit pid) e s = refl
 entry_of_values (values.Kernel base size image) e s = refl
 entry_of_values values.Drain e s = refl
@@ -96,10 +93,10 @@ entry_of_values values.End e s = absurd (e refl)
 -- a record that passes is one of at most 65,536
 few : (before : List (Said ℕ)) (v : BodyValues) → is_record (values_shown v) ≡ true → is_record_too_many before (values_shown v) ≡ false → count_by is_record before < 65536
 few before (values.Sample cpu pid pc event) r h = absurd (false≢true r)
-few before (values.Scan pid base size image) r h = leb-false _ _ h
-few before (values.Load pid base size image) r h = leb-false _ _ h
+few before (values.Scan m) r h = leb-false _ _ h
+few before (values.Load m) r h = leb-false _ _ h
 few before (values.Unload pid base size) r h = leb-false _ _ h
-few before (values.Exec pid base size image) r h = leb-false _ _ h
+few before (values.Exec m) r h = leb-false _ _ h
 few before (values.Exit pid) r h = leb-false _ _ h
 few before (values.Kernel base size image) r h = leb-false _ _ h
 few before values.Drain r h = leb-false _ _ h

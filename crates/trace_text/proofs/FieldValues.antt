@@ -1,5 +1,5 @@
 -- Fields that were read as numbers.
-use Rattle.std.proofs.Common.{◌≡◌, ℕ, ◌^◌, ◌&&◌, Bool, true, false, List, refl, ap, sym, subst, ◌∙◌, Option, Some, None, ltb, if◌then◌else◌}
+use Rattle.std.proofs.Common.{◌≡◌, ℕ, ◌^◌, true, List, sym, subst, Some, ltb}
 use Rattle.std.proofs.lemmas.Bool.{and_from}
 use Rattle.text_num.specs.Numbers.{number, is_canonical, value_of}
 use Rattle.text_num.proofs.Spelling.{told_of}

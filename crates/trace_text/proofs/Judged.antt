@@ -1,11 +1,9 @@
 -- The verdict on a line, test by test.
-use Rattle.std.proofs.Common.{◌≡◌, ℕ, ◌+◌, ◌*◌, ◌^◌, ◌<◌, ◌≤◌, ◌&&◌, ◌||◌, Bool, true, false, not, cond, List, [], ◌∷◌, ◌++◌, refl, ap, sym, subst, ◌∙◌, arith, Option, Some, None, Result, Ok, Err, if◌then◌else◌, nat_le}
-use Rattle.std.specs.List.{count_by, list_all}
-use Rattle.std.specs.Option.{is_some, is_none}
-use Rattle.std.proofs.lemmas.Bool.{and_parts, and_from, or_parts, leb-false, true≢false, false≢true}
+use Rattle.std.proofs.Common.{◌≡◌, ℕ, ◌&&◌, Bool, true, false, not, List, [], ◌∷◌, refl, ap, sym, ◌∙◌, Option, Some, None, Err, if◌then◌else◌}
+use Rattle.std.proofs.lemmas.Bool.{and_parts, true≢false, false≢true}
 use Rattle.trace_model.specs.declared.reasons.TraceWhy.{TraceWhy}
-use Rattle.trace_model.specs.declared.reasons.TraceWhy.TheVariants.{BadNumber, OutOfRange, Unaligned, BadName, NoSuchCpu, ScanTooLate, TooManySamples, TooManyRecords}
-use Rattle.trace_model.specs.Said.{Said, ShortHeader, LongHeader, Sampled, Scanned, Loaded, Unloaded, Executed, Exited, KernelMapped, Drained, Merged, EpochBegun, Ended, Turned, Polled, Advanced, Field, every, tested, is_spelled, is_within, is_aligned, is_titled, values_of}
+use Rattle.trace_model.specs.declared.reasons.TraceWhy.TheVariants.{BadNumber, OutOfRange, Unaligned, BadName}
+use Rattle.trace_model.specs.Said.{Said, ShortHeader, LongHeader, Sampled, Scanned, Loaded, Unloaded, Executed, Exited, KernelMapped, Drained, Merged, EpochBegun, Ended, Turned, Polled, Advanced, every, tested, is_spelled, is_within, is_aligned, is_titled, values_of}
 use Rattle.trace_model.specs.Grammar.{verdict_on, judged, first_that_applies, value_tests, context_tests, scans_too_late, is_sample_too_many, is_record_too_many, names_no_cpu}
 use Rattle.trace_text.specs.Forms.{field_value, read_field}
 

@@ -1,8 +1,8 @@
 -- The parts of a trace, read one after another.
-use Rattle.std.proofs.Common.{◌≡◌, ◌≢◌, ℕ, suc, ◌+◌, ◌<◌, ◌≤◌, Bool, true, false, List, [], ◌∷◌, ◌++◌, length, map, refl, ap, sym, subst, ◌∙◌, arith, Option, Some, None, Result, Ok, Err}
-use Rattle.std.specs.List.{list_any, count_by, fold}
+use Rattle.std.proofs.Common.{◌≡◌, ℕ, ◌+◌, ◌≤◌, true, List, [], ◌∷◌, ◌++◌, length, refl, ap, sym, subst, ◌∙◌, arith, Option, Some, None}
+use Rattle.std.specs.List.{list_any}
 use Rattle.std.specs.Io.KnownBytes.{Consumes, IsAtEnd, prepend_known}
-use Rattle.std.proofs.lemmas.List.{length-append, length-map, append-nil}
+use Rattle.std.proofs.lemmas.List.{length-map, append-nil}
 use Rattle.std.proofs.KnownBytes.{prepend_known-nil}
 use Rattle.text_num.specs.Lines.{text_of_lines}
 use Rattle.line_reader.specs.declared.faults.Ending.TheVariants as endings
@@ -10,9 +10,9 @@ use Rattle.line_reader.specs.Reading.{ReadsLine}
 use Rattle.trace_model.specs.declared.reasons.TraceWhy.{TraceWhy}
 use Rattle.trace_model.specs.declared.notices.Step.{Step}
 use Rattle.trace_model.specs.Said.{Said, Ended, is_end, is_step}
-use Rattle.trace_model.specs.Grammar.{verdict, Says, FirstBad}
+use Rattle.trace_model.specs.Grammar.{verdict, FirstBad}
 use Rattle.std.specs.Option.{IfSome}
-use Rattle.trace_model.specs.Recording.{line_said, Recording, Reads, said_in, images_in_order, are_good}
+use Rattle.trace_model.specs.Recording.{line_said, Recording, Reads, said_in, images_in_order}
 use Rattle.trace_text.specs.declared.body_state.Body.{Body}
 use Rattle.trace_text.specs.declared.body_state.Taken.{Taken}
 use Rattle.trace_text.specs.declared.body_state.Taken.TheVariants as kinds
@@ -27,7 +27,7 @@ use Rattle.trace_text.specs.Phases.{StepsBody, StepsSchedule}
 use Rattle.trace_text.specs.Refusing.{HaltsBy, IsOfLineRefusal, IsFirstBadBy}
 use Rattle.trace_text.proofs.Tracking.{count_push, images_push, good_push}
 use Rattle.trace_text.proofs.ScheduleSteps.{ended}
-use Rattle.trace_text.proofs.Walking.{went_line, went_on, went_length, stops_on, stops_finished}
+use Rattle.trace_text.proofs.Walking.{went_line, went_on, stops_on, stops_finished}
 
 -- a line of the body that was taken
 pub body_stepped : (taken : Taken) (left rest : Option (List ℕ)) (old new : Body) (line line' : List ℕ) → line' ≡ line → ReadsLine 400 endings.Finished line left rest → TakesLine taken old line' new → StepsBody taken left rest old new

@@ -1,23 +1,21 @@
 -- One line of the schedule: judged, and taken.
-use Rattle.std.proofs.Common.{◌≡◌, ℕ, ◌+◌, ◌<◌, ◌≤◌, ◌&&◌, ◌||◌, Bool, true, false, not, cond, List, [], ◌∷◌, ◌++◌, length, map, refl, ap, sym, subst, ◌∙◌, arith, Option, Some, None, Result, Ok, Err, if◌then◌else◌, nat_le, append_assoc}
-use Rattle.std.specs.List.{list_any, list_all, count_by, fold}
-use Rattle.std.proofs.lemmas.Bool.{leb-false, true≢false, false≢true}
+use Rattle.std.proofs.Common.{◌≡◌, ℕ, ◌+◌, ◌<◌, ◌||◌, Bool, true, false, cond, List, [], ◌∷◌, ◌++◌, length, map, refl, ap, sym, subst, ◌∙◌, arith, Some, None, Ok, Err, if◌then◌else◌, nat_le, append_assoc}
+use Rattle.std.specs.List.{list_any, count_by, fold}
+use Rattle.std.proofs.lemmas.Bool.{leb-false}
 use Rattle.std.proofs.lemmas.List.{map-append, length-append}
 use Rattle.std.proofs.lemmas.List.Folds.{list_any-append}
-use Rattle.trace_model.specs.declared.reasons.TraceWhy.{TraceWhy}
-use Rattle.trace_model.specs.declared.reasons.TraceWhy.TheVariants.{AfterEnd, NotHeader, NoSuchCpu, TooManyRecords}
+use Rattle.trace_model.specs.declared.reasons.TraceWhy.TheVariants.{AfterEnd, NoSuchCpu, TooManyRecords}
 use Rattle.trace_model.specs.declared.notices.Step.{Step}
 use Rattle.trace_model.specs.declared.notices.Step.TheVariants.{Lane, Poll, Advance}
-use Rattle.trace_model.specs.Said.{Said, LongHeader, Turned, Polled, Advanced, Ended, every, tested, is_aligned, is_titled, is_step, is_end, images_named}
-use Rattle.trace_model.specs.Grammar.{verdict, verdict_on, verdict_of_form, stage_after, form_at, step_of, header_of, cut_at_spaces, AtBody, AtSchedule, AtHeader, why_no_form, first_that_applies, value_tests, context_tests}
+use Rattle.trace_model.specs.Said.{Said, Ended, every, tested, is_aligned, is_titled, is_step, is_end, images_named}
+use Rattle.trace_model.specs.Grammar.{verdict, verdict_on, verdict_of_form, stage_after, form_at, step_of, cut_at_spaces, AtBody, AtSchedule, why_no_form, first_that_applies, value_tests, context_tests}
 use Rattle.trace_model.specs.Recording.{step_said, with_name, images_in_order, are_good}
 use Rattle.trace_text.specs.declared.body_state.Body.{Body}
-use Rattle.trace_text.specs.State.{IsSound, AreSteps, said_in_body, said_with_steps}
+use Rattle.trace_text.specs.State.{AreSteps, said_in_body, said_with_steps}
 use Rattle.trace_text.specs.Stepping.{step_fault}
 use Rattle.trace_text.specs.Progress.{SaysNext}
 use Rattle.trace_text.proofs.Judged.{passes}
 use Rattle.trace_text.proofs.Tracking.{count_push, images_push, good_push}
-use Rattle.trace_text.proofs.BodySteps.{no_end, stage_is}
 
 or_true : (b : Bool) → (b || true) ≡ true
 or_true true = refl

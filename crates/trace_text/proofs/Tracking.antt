@@ -1,10 +1,10 @@
 -- What the reader counts, one line later.
-use Rattle.std.proofs.Common.{◌≡◌, ℕ, zero, suc, ◌+◌, ◌*◌, ◌^◌, ◌<◌, ◌≤◌, ◌&&◌, ◌||◌, Bool, true, false, not, cond, List, [], ◌∷◌, ◌++◌, length, map, refl, ap, sym, subst, ◌∙◌, arith, Option, Some, None, if◌then◌else◌, nat_le, nat_lt, append_assoc}
-use Rattle.std.specs.List.{count_by, list_all, list_any, flat_map, fold, slice_get}
-use Rattle.std.specs.Option.{is_some, is_none, unwrap_or}
+use Rattle.std.proofs.Common.{◌≡◌, ℕ, zero, suc, ◌+◌, ◌<◌, ◌≤◌, ◌&&◌, Bool, true, false, cond, List, [], ◌∷◌, ◌++◌, length, map, refl, ap, sym, subst, ◌∙◌, arith, Option, Some, None, if◌then◌else◌, append_assoc}
+use Rattle.std.specs.List.{count_by, list_all, list_any, flat_map, fold}
+use Rattle.std.specs.Option.{is_none}
 use Rattle.std.specs.Str.{bytes_eq}
-use Rattle.std.proofs.lemmas.Bool.{and_parts, and_from, or_parts, leb-false, ltb-true, lt-ltb, true≢false, false≢true}
-use Rattle.std.proofs.lemmas.List.{append-nil, map-append, length-append}
+use Rattle.std.proofs.lemmas.Bool.{and_parts, and_from, or_parts, leb-false, ltb-true, lt-ltb}
+use Rattle.std.proofs.lemmas.List.{append-nil, length-append}
 use Rattle.std.proofs.lemmas.List.Sums.{sum_by-append, fold-append}
 use Rattle.std.proofs.lemmas.List.Folds.{list_all-append}
 use Rattle.std.proofs.lemmas.Grind.{flat_map-append}
@@ -15,7 +15,7 @@ use Rattle.trace_model.specs.declared.notices.Line.TheVariants.{Sample, Rec}
 use Rattle.sample_key.specs.declared.events.Event.{Event}
 use Rattle.trace_model.specs.declared.reasons.TraceWhy.{TraceWhy}
 use Rattle.trace_model.specs.Said.{Said, Sampled, Scanned, Loaded, Executed, KernelMapped, is_sample, is_record, is_step, ends_part, may_precede_scan, images_named}
-use Rattle.trace_model.specs.Grammar.{first_that_applies, value_tests, is_sample_too_many, is_record_too_many}
+use Rattle.trace_model.specs.Grammar.{first_that_applies, value_tests, is_record_too_many}
 use Rattle.trace_model.specs.Recording.{line_said, record_said, name_at, with_name, images_in_order, are_good}
 use Rattle.trace_text.specs.State.{Tracks, is_among, line_is_among}
 use Rattle.trace_text.proofs.Judged.{and_true, passes}

@@ -1,10 +1,10 @@
 -- Lines read one after another.
-use Rattle.std.proofs.Common.{◌≡◌, ◌≢◌, ℕ, suc, ◌+◌, ◌<◌, ◌≤◌, ◌||◌, Bool, true, false, List, [], ◌∷◌, ◌++◌, length, map, refl, ap, sym, subst, ◌∙◌, arith, Option, Some, None, Result, Ok, Err, append_assoc}
+use Rattle.std.proofs.Common.{◌≡◌, ◌≢◌, ℕ, suc, ◌+◌, true, false, List, [], ◌∷◌, ◌++◌, length, refl, ap, sym, subst, ◌∙◌, arith, Option, Some, None, Result, Ok, Err, append_assoc}
 use Rattle.std.specs.List.{AllByRecursion, list_any}
 use Rattle.std.specs.Io.KnownBytes.{Consumes, IsAtEnd}
 use Rattle.std.proofs.KnownBytes.{Consumes-trans, Consumes-nil}
 use Rattle.std.proofs.lemmas.List.{length-append, append-nil}
-use Rattle.text_num.specs.Lines.{HasNoLineFeed, text_of_lines}
+use Rattle.text_num.specs.Lines.{text_of_lines}
 use Rattle.line_reader.specs.declared.faults.Ending.TheVariants as endings
 use Rattle.line_reader.specs.Reading.{ReadsLine}
 use Rattle.trace_model.specs.declared.reasons.TraceWhy.{TraceWhy}

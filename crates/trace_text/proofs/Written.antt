@@ -1,10 +1,10 @@
 -- The text of a trace, part by part.
-use Rattle.std.proofs.Common.{◌≡◌, ℕ, zero, suc, ◌+◌, ◌<◌, Bool, true, false, List, [], ◌∷◌, ◌++◌, length, map, refl, ap, sym, ◌∙◌, arith, subst, nat_lt, Result, Ok, Err, OnOk}
-use Rattle.std.specs.Prelude.{unwrap_or, slice_get, codes}
+use Rattle.std.proofs.Common.{◌≡◌, ℕ, true, List, [], ◌∷◌, ◌++◌, length, map, refl, ap, sym, ◌∙◌, nat_lt, Result, Ok, Err, OnOk}
+use Rattle.std.specs.Prelude.{codes}
 use Rattle.std.specs.Fmt.{decimal}
 use Rattle.std.specs.List.{list_all}
 use Rattle.std.specs.Option.{is_none}
-use Rattle.std.proofs.lemmas.Bool.{lt-ltb, and_parts, and_from, not-false, false≢true}
+use Rattle.std.proofs.lemmas.Bool.{lt-ltb, and_parts, and_from, not-false}
 use Rattle.std.proofs.lemmas.List.{append_assoc, map-append}
 use Rattle.text_num.specs.Lines.{text_of_lines}
 use Rattle.text_num.specs.Names.{is_name}
@@ -16,7 +16,7 @@ use Rattle.trace_model.specs.declared.notices.Step.{Step}
 use Rattle.trace_model.specs.declared.recordings.Trace.{Trace}
 use Rattle.trace_model.specs.Said.{Said, LongHeader, Ended, every, tested, is_titled, line_text}
 use Rattle.trace_model.specs.Grammar.{first_that_applies, value_tests}
-use Rattle.trace_model.specs.Recording.{are_good, name_at, record_said, line_said, step_said, said_in, trace_text}
+use Rattle.trace_model.specs.Recording.{are_good, name_at, record_said, line_said, step_said, trace_text}
 use Rattle.trace_model.specs.Traces.{recording_of}
 use Rattle.trace_laws.proofs.Inverse.{named_below}
 use Rattle.trace_model.proofs.Tests.{all_clear}

@@ -1,5 +1,5 @@
 -- Lines whose words are in order, as the reader holds them.
-use Rattle.std.specs.Prelude.{◌≡◌, ℕ, ◌==◌, ◌&&◌, Bool, true, false, List, []}
+use Rattle.std.specs.Prelude.{◌≡◌, ℕ, ◌&&◌, Bool, true, false, List, [], ◌∷◌}
 use Rattle.std.specs.declared.option.Option.{Option}
 use Rattle.std.specs.declared.option.Option.TheVariants.{Some, None}
 use Rattle.std.specs.Borrow.{Bor}
@@ -8,6 +8,7 @@ use Rattle.trace_model.specs.Grammar.{cut_at_spaces}
 use Rattle.trace_model.specs.Said.{Said, ShortHeader, LongHeader, Sampled, Scanned, Loaded, Unloaded, Executed, Exited, KernelMapped, Drained, Merged, EpochBegun, Ended, Turned, Polled, Advanced, Field, Decimal, PowerOfTwo, Address, Mapping, Title, is_spelled, is_within}
 use Rattle.trace_text.specs.declared.headers.HeaderForm.{HeaderForm}
 use Rattle.trace_text.specs.declared.headers.HeaderForm.TheVariants as headers
+use Rattle.trace_text.specs.declared.body.MappingForm.{MappingForm}
 use Rattle.trace_text.specs.declared.body.BodyForm.{BodyForm}
 use Rattle.trace_text.specs.declared.body.BodyForm.TheVariants as forms
 use Rattle.trace_text.specs.declared.body.BodyValues.{BodyValues}
@@ -41,12 +42,16 @@ abbrev pub header_shown : HeaderForm → Said (List ℕ)
 header_shown (headers.Short cpus) = ShortHeader cpus.now
 header_shown (headers.Long cpus buckets buffer) = LongHeader cpus.now buckets.now buffer.now
 
+-- the fields of a mapping that are tested
+abbrev pub mapping_fields : MappingForm → List (Field (List ℕ))
+mapping_fields form = Decimal 0 4294967295 form.pid.now ∷ Mapping form.base.now form.size.now ∷ Title form.image.now ∷ []
+
 abbrev pub body_shown : BodyForm → Said (List ℕ)
 body_shown (forms.Sample cpu pid pc event) = Sampled cpu.now pid.now pc.now event
-body_shown (forms.Scan pid base size image) = Scanned pid.now base.now size.now image.now
-body_shown (forms.Load pid base size image) = Loaded pid.now base.now size.now image.now
+body_shown (forms.Scan m) = Scanned m.pid.now m.base.now m.size.now m.image.now
+body_shown (forms.Load m) = Loaded m.pid.now m.base.now m.size.now m.image.now
 body_shown (forms.Unload pid base size) = Unloaded pid.now base.now size.now
-body_shown (forms.Exec pid base size image) = Executed pid.now base.now size.now image.now
+body_shown (forms.Exec m) = Executed m.pid.now m.base.now m.size.now m.image.now
 body_shown (forms.Exit pid) = Exited pid.now
 body_shown (forms.Kernel base size image) = KernelMapped base.now size.now image.now
 body_shown forms.Drain = Drained
@@ -56,10 +61,10 @@ body_shown forms.End = Ended
 
 abbrev pub values_shown : BodyValues → Said ℕ
 values_shown (values.Sample cpu pid pc event) = Sampled cpu pid pc event
-values_shown (values.Scan pid base size image) = Scanned pid base size image.now
-values_shown (values.Load pid base size image) = Loaded pid base size image.now
+values_shown (values.Scan m) = Scanned m.pid m.base m.size m.image.now
+values_shown (values.Load m) = Loaded m.pid m.base m.size m.image.now
 values_shown (values.Unload pid base size) = Unloaded pid base size
-values_shown (values.Exec pid base size image) = Executed pid base size image.now
+values_shown (values.Exec m) = Executed m.pid m.base m.size m.image.now
 values_shown (values.Exit pid) = Exited pid
 values_shown (values.Kernel base size image) = KernelMapped base size image.now
 values_shown values.Drain = Drained

@@ -1,9 +1,9 @@
 -- One line of each part of a trace, as it was read from the input.
-use Rattle.std.specs.Prelude.{◌≡◌, ℕ, ◌+◌, Bool, true, false, List, [], ◌∷◌, ◌++◌}
+use Rattle.std.specs.Prelude.{◌≡◌, ℕ, Bool, true, false, List, [], ◌∷◌, ◌++◌}
 use Rattle.std.specs.declared.option.Option.{Option}
 use Rattle.std.specs.Io.KnownBytes.{IsAtEnd}
 use Rattle.trace_model.specs.declared.notices.Step.{Step}
-use Rattle.trace_model.specs.Said.{Said, Ended}
+use Rattle.trace_model.specs.Said.{Ended}
 use Rattle.trace_text.specs.declared.body_state.Body.{Body}
 use Rattle.trace_text.specs.declared.body_state.Taken.{Taken}
 use Rattle.trace_text.specs.declared.body_state.Taken.TheVariants as kinds

@@ -1,6 +1,5 @@
 -- What taking a line of the body changes.
-use Rattle.std.specs.Prelude.{◌≡◌, ℕ, ◌+◌, ◌%◌, ◌<◌, ◌&&◌, Bool, true, false, cond, List, [], ◌∷◌, ◌++◌, length}
-use Rattle.std.specs.declared.option.Option.{Option}
+use Rattle.std.specs.Prelude.{◌≡◌, ℕ, ◌+◌, ◌<◌, ◌&&◌, true, false, cond, List, [], ◌∷◌, ◌++◌, length}
 use Rattle.std.specs.declared.result.Result.{Result}
 use Rattle.std.specs.declared.result.Result.TheVariants.{Ok, Err}
 use Rattle.std.specs.List.{fold}
@@ -11,7 +10,7 @@ use Rattle.sample_key.specs.declared.events.Event.{Event}
 use Rattle.trace_model.specs.declared.reasons.TraceWhy.{TraceWhy}
 use Rattle.trace_model.specs.declared.notices.Record.{Record}
 use Rattle.trace_model.specs.declared.notices.Line.{Line}
-use Rattle.trace_model.specs.declared.notices.Line.TheVariants.{Sample, Rec}
+use Rattle.trace_model.specs.declared.notices.Line.TheVariants.{Rec}
 use Rattle.trace_model.specs.Said.{Said, Sampled, Ended, images_named}
 use Rattle.trace_model.specs.Recording.{line_said, record_said, name_at, with_name}
 use Rattle.trace_text.specs.declared.body.BodyValues.{BodyValues}

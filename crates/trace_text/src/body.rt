@@ -1,12 +1,71 @@
-ghost use Rattle.std.specs.Prelude.{◌≡◌, ◌&&◌, [], ◌∷◌, if◌then◌else◌, Some, None};
+ghost use Rattle.std.specs.Prelude.{◌≡◌, ◌%◌, ◌==◌, ◌&&◌, [], ◌∷◌, if◌then◌else◌, Some, None, MatchOption, true, false};
+ghost use Rattle.text_num.specs.Numbers.{value_of};
 ghost use Rattle.std.specs.Option.{option_map};
 ghost use Rattle.trace_model.specs.Grammar.{body_of, cut_at_spaces};
-ghost use Rattle.trace_model.specs.Said.{every, tested, is_spelled, is_aligned, is_titled, values_of};
-ghost use Rattle.trace_text.specs.Forms.{body_shown, values_shown, read_field};
+ghost use Rattle.trace_model.specs.Said.{Sampled, every, tested, is_spelled, is_aligned, is_titled, values_of};
+ghost use Rattle.trace_text.specs.Forms.{body_shown, values_shown, mapping_fields, read_field};
 
 use crate::fields::{address, cut, decimal, mapping};
 use sample_key::Event;
 use text_num::{is_dec, is_hex, is_name};
+use trace_model::Record;
+
+/// A mapping of a process, with its fields as they stand.
+#[derive(Clone, Copy)]
+pub struct MappingForm<'a> {
+    pub pid: &'a [u8],
+    pub base: &'a [u8],
+    pub size: &'a [u8],
+    pub image: &'a [u8],
+}
+
+/// The same with the values of the number fields.
+#[derive(Clone, Copy)]
+pub struct MappingValues<'a> {
+    pub pid: u32,
+    pub base: u64,
+    pub size: u64,
+    pub image: &'a [u8],
+}
+
+impl MappingValues<'_> {
+    /// The records of this mapping, with its image by index.
+    pub fn scan(&self, image: u32) -> Record
+        ensures { result ≡ Record.Scan self.now.pid self.now.base self.now.size image }
+    {
+        let (pid, base, length) = (self.pid, self.base, self.size);
+        Record::Scan {
+            pid,
+            base,
+            length,
+            image,
+        }
+    }
+
+    pub fn load(&self, image: u32) -> Record
+        ensures { result ≡ Record.Load self.now.pid self.now.base self.now.size image }
+    {
+        let (pid, base, length) = (self.pid, self.base, self.size);
+        Record::Load {
+            pid,
+            base,
+            length,
+            image,
+        }
+    }
+
+    pub fn exec(&self, image: u32) -> Record
+        ensures { result ≡ Record.Exec self.now.pid self.now.base self.now.size image }
+    {
+        let (pid, base, length) = (self.pid, self.base, self.size);
+        Record::Exec {
+            pid,
+            base,
+            length,
+            image,
+        }
+    }
+}
 
 /// A line of the body whose words are in order, with its other fields as they stand.
 #[derive(Clone, Copy)]
@@ -17,29 +76,14 @@ pub enum BodyForm<'a> {
         pc: &'a [u8],
         event: Event,
     },
-    Scan {
-        pid: &'a [u8],
-        base: &'a [u8],
-        size: &'a [u8],
-        image: &'a [u8],
-    },
-    Load {
-        pid: &'a [u8],
-        base: &'a [u8],
-        size: &'a [u8],
-        image: &'a [u8],
-    },
+    Scan(MappingForm<'a>),
+    Load(MappingForm<'a>),
     Unload {
         pid: &'a [u8],
         base: &'a [u8],
         size: &'a [u8],
     },
-    Exec {
-        pid: &'a [u8],
-        base: &'a [u8],
-        size: &'a [u8],
-        image: &'a [u8],
-    },
+    Exec(MappingForm<'a>),
     Exit {
         pid: &'a [u8],
     },
@@ -63,29 +107,14 @@ pub enum BodyValues<'a> {
         pc: u64,
         event: Event,
     },
-    Scan {
-        pid: u32,
-        base: u64,
-        size: u64,
-        image: &'a [u8],
-    },
-    Load {
-        pid: u32,
-        base: u64,
-        size: u64,
-        image: &'a [u8],
-    },
+    Scan(MappingValues<'a>),
+    Load(MappingValues<'a>),
     Unload {
         pid: u32,
         base: u64,
         size: u64,
     },
-    Exec {
-        pid: u32,
-        base: u64,
-        size: u64,
-        image: &'a [u8],
-    },
+    Exec(MappingValues<'a>),
     Exit {
         pid: u32,
     },
@@ -193,28 +222,32 @@ fn with_four<'a>(
             None => None,
         }
     } else if word == b"load".as_slice() {
-        Some(BodyForm::Load {
-            pid: a,
-            base: b,
-            size: c,
-            image: d,
-        })
+        Some(BodyForm::Load(mapping_form(a, b, c, d)))
     } else if word == b"scan".as_slice() {
-        Some(BodyForm::Scan {
-            pid: a,
-            base: b,
-            size: c,
-            image: d,
-        })
+        Some(BodyForm::Scan(mapping_form(a, b, c, d)))
     } else if word == b"exec".as_slice() {
-        Some(BodyForm::Exec {
-            pid: a,
-            base: b,
-            size: c,
-            image: d,
-        })
+        Some(BodyForm::Exec(mapping_form(a, b, c, d)))
     } else {
         None
+    }
+}
+
+fn mapping_form<'a>(
+    pid: &'a [u8],
+    base: &'a [u8],
+    size: &'a [u8],
+    image: &'a [u8],
+) -> MappingForm<'a>
+    ensures pid { result.pid.now ≡ pid.now }
+    ensures base { result.base.now ≡ base.now }
+    ensures size { result.size.now ≡ size.now }
+    ensures image { result.image.now ≡ image.now }
+{
+    MappingForm {
+        pid,
+        base,
+        size,
+        image,
     }
 }
 
@@ -229,25 +262,10 @@ pub fn is_spelled(form: &BodyForm<'_>) -> bool
             pc,
             event: _,
         } => is_dec(cpu) && (is_dec(pid) && is_hex(pc)),
-        BodyForm::Scan {
-            pid,
-            base,
-            size,
-            image: _,
-        } => is_dec(pid) && ((is_hex(base) && is_hex(size)) && true),
-        BodyForm::Load {
-            pid,
-            base,
-            size,
-            image: _,
-        } => is_dec(pid) && ((is_hex(base) && is_hex(size)) && true),
+        BodyForm::Scan(form) => is_spelled_mapping(form),
+        BodyForm::Load(form) => is_spelled_mapping(form),
         BodyForm::Unload { pid, base, size } => is_dec(pid) && (is_hex(base) && is_hex(size)),
-        BodyForm::Exec {
-            pid,
-            base,
-            size,
-            image: _,
-        } => is_dec(pid) && ((is_hex(base) && is_hex(size)) && true),
+        BodyForm::Exec(form) => is_spelled_mapping(form),
         BodyForm::Exit { pid } => is_dec(pid),
         BodyForm::Kernel {
             base,
@@ -261,6 +279,12 @@ pub fn is_spelled(form: &BodyForm<'_>) -> bool
     }
 }
 
+fn is_spelled_mapping(form: &MappingForm<'_>) -> bool
+    ensures { result ≡ every is_spelled (mapping_fields form.now) }
+{
+    is_dec(form.pid) && ((is_hex(form.base) && is_hex(form.size)) && true)
+}
+
 /// The values of the fields, where each is canonical and in its range.
 pub fn read_values<'a>(form: &BodyForm<'a>) -> Option<BodyValues<'a>>
     ensures { option_map values_shown result ≡ (if every read_field (tested (body_shown form.now)) then Some (values_of (body_shown form.now)) else None) }
@@ -271,67 +295,15 @@ pub fn read_values<'a>(form: &BodyForm<'a>) -> Option<BodyValues<'a>>
             pid,
             pc,
             event,
-        } => {
-            let cpu = decimal(cpu, 0, 15)?;
-            let pid = decimal(pid, 0, u32::MAX)?;
-            let pc = address(pc)?;
-            Some(BodyValues::Sample {
-                cpu,
-                pid,
-                pc,
-                event,
-            })
-        }
-        BodyForm::Scan {
-            pid,
-            base,
-            size,
-            image,
-        } => {
-            let pid = decimal(pid, 0, u32::MAX)?;
-            let (base, size) = mapping(base, size)?;
-            Some(BodyValues::Scan {
-                pid,
-                base,
-                size,
-                image,
-            })
-        }
-        BodyForm::Load {
-            pid,
-            base,
-            size,
-            image,
-        } => {
-            let pid = decimal(pid, 0, u32::MAX)?;
-            let (base, size) = mapping(base, size)?;
-            Some(BodyValues::Load {
-                pid,
-                base,
-                size,
-                image,
-            })
-        }
+        } => read_sample(cpu, pid, pc, event),
+        BodyForm::Scan(form) => Some(BodyValues::Scan(read_mapping(&form)?)),
+        BodyForm::Load(form) => Some(BodyValues::Load(read_mapping(&form)?)),
         BodyForm::Unload { pid, base, size } => {
             let pid = decimal(pid, 0, u32::MAX)?;
             let (base, size) = mapping(base, size)?;
             Some(BodyValues::Unload { pid, base, size })
         }
-        BodyForm::Exec {
-            pid,
-            base,
-            size,
-            image,
-        } => {
-            let pid = decimal(pid, 0, u32::MAX)?;
-            let (base, size) = mapping(base, size)?;
-            Some(BodyValues::Exec {
-                pid,
-                base,
-                size,
-                image,
-            })
-        }
+        BodyForm::Exec(form) => Some(BodyValues::Exec(read_mapping(&form)?)),
         BodyForm::Exit { pid } => {
             let pid = decimal(pid, 0, u32::MAX)?;
             Some(BodyValues::Exit { pid })
@@ -347,6 +319,33 @@ pub fn read_values<'a>(form: &BodyForm<'a>) -> Option<BodyValues<'a>>
     }
 }
 
+fn read_sample<'a>(cpu: &[u8], pid: &[u8], pc: &[u8], event: Event) -> Option<BodyValues<'a>>
+    ensures { option_map values_shown result ≡ (if every read_field (tested (Sampled cpu.now pid.now pc.now event)) then Some (values_of (Sampled cpu.now pid.now pc.now event)) else None) }
+{
+    let cpu = decimal(cpu, 0, 15)?;
+    let pid = decimal(pid, 0, u32::MAX)?;
+    let pc = address(pc)?;
+    Some(BodyValues::Sample {
+        cpu,
+        pid,
+        pc,
+        event,
+    })
+}
+
+fn read_mapping<'a>(form: &MappingForm<'a>) -> Option<MappingValues<'a>>
+    ensures { MatchOption result (every read_field (mapping_fields form.now) ≡ false) (λ m. (every read_field (mapping_fields form.now) ≡ true) × (m.pid ≡ value_of 10 form.now.pid.now) × (m.base ≡ value_of 16 form.now.base.now) × (m.size ≡ value_of 16 form.now.size.now) × (m.image.now ≡ form.now.image.now)) }
+{
+    let pid = decimal(form.pid, 0, u32::MAX)?;
+    let (base, size) = mapping(form.base, form.size)?;
+    Some(MappingValues {
+        pid,
+        base,
+        size,
+        image: form.image,
+    })
+}
+
 /// Whether addresses and lengths are multiples of 4.
 pub fn is_aligned(values: &BodyValues<'_>) -> bool
     ensures { result ≡ every is_aligned (tested (values_shown values.now)) }
@@ -358,36 +357,27 @@ pub fn is_aligned(values: &BodyValues<'_>) -> bool
             pc,
             event: _,
         } => *pc % 4 == 0,
-        BodyValues::Scan {
-            pid: _,
-            base,
-            size,
-            image: _,
-        } => (*base % 4 == 0 && *size % 4 == 0) && true,
-        BodyValues::Load {
-            pid: _,
-            base,
-            size,
-            image: _,
-        } => (*base % 4 == 0 && *size % 4 == 0) && true,
-        BodyValues::Unload { pid: _, base, size } => *base % 4 == 0 && *size % 4 == 0,
-        BodyValues::Exec {
-            pid: _,
-            base,
-            size,
-            image: _,
-        } => (*base % 4 == 0 && *size % 4 == 0) && true,
+        BodyValues::Scan(mapping) => are_aligned(mapping.base, mapping.size) && true,
+        BodyValues::Load(mapping) => are_aligned(mapping.base, mapping.size) && true,
+        BodyValues::Unload { pid: _, base, size } => are_aligned(*base, *size),
+        BodyValues::Exec(mapping) => are_aligned(mapping.base, mapping.size) && true,
         BodyValues::Exit { .. } => true,
         BodyValues::Kernel {
             base,
             size,
             image: _,
-        } => (*base % 4 == 0 && *size % 4 == 0) && true,
+        } => are_aligned(*base, *size) && true,
         BodyValues::Drain => true,
         BodyValues::Merge => true,
         BodyValues::Epoch => true,
         BodyValues::End => true,
     }
+}
+
+fn are_aligned(base: u64, size: u64) -> bool
+    ensures { result ≡ (base % 4 == 0 && size % 4 == 0) }
+{
+    base % 4 == 0 && size % 4 == 0
 }
 
 /// Whether an image that is named has a name.
@@ -396,25 +386,10 @@ pub fn is_titled(values: &BodyValues<'_>) -> bool
 {
     match values {
         BodyValues::Sample { .. } => true,
-        BodyValues::Scan {
-            pid: _,
-            base: _,
-            size: _,
-            image,
-        } => is_name(image),
-        BodyValues::Load {
-            pid: _,
-            base: _,
-            size: _,
-            image,
-        } => is_name(image),
+        BodyValues::Scan(mapping) => is_name(mapping.image),
+        BodyValues::Load(mapping) => is_name(mapping.image),
         BodyValues::Unload { .. } => true,
-        BodyValues::Exec {
-            pid: _,
-            base: _,
-            size: _,
-            image,
-        } => is_name(image),
+        BodyValues::Exec(mapping) => is_name(mapping.image),
         BodyValues::Exit { .. } => true,
         BodyValues::Kernel {
             base: _,

@@ -133,10 +133,10 @@ impl Body {
     {
         match values {
             BodyValues::Sample { cpu, .. } => self.against_sample(*cpu),
-            BodyValues::Scan { .. } => self.against_scan(),
-            BodyValues::Load { .. } => self.against_record(),
+            BodyValues::Scan(_) => self.against_scan(),
+            BodyValues::Load(_) => self.against_record(),
             BodyValues::Unload { .. } => self.against_record(),
-            BodyValues::Exec { .. } => self.against_record(),
+            BodyValues::Exec(_) => self.against_record(),
             BodyValues::Exit { .. } => self.against_record(),
             BodyValues::Kernel { .. } => self.against_record(),
             BodyValues::Drain => self.against_record(),
@@ -222,52 +222,22 @@ impl Body {
         ensures { IfOk result (Names self.old self.new (values_shown values.now)) }
     {
         match *values {
-            BodyValues::Scan {
-                pid,
-                base,
-                size,
-                image,
-            } => {
-                let image = self.image(alloc, image)?;
-                Ok(Record::Scan {
-                    pid,
-                    base,
-                    length: size,
-                    image,
-                })
+            BodyValues::Scan(mapping) => {
+                let image = self.image(alloc, mapping.image)?;
+                Ok(mapping.scan(image))
             }
-            BodyValues::Load {
-                pid,
-                base,
-                size,
-                image,
-            } => {
-                let image = self.image(alloc, image)?;
-                Ok(Record::Load {
-                    pid,
-                    base,
-                    length: size,
-                    image,
-                })
+            BodyValues::Load(mapping) => {
+                let image = self.image(alloc, mapping.image)?;
+                Ok(mapping.load(image))
             }
             BodyValues::Unload { pid, base, size } => Ok(Record::Unload {
                 pid,
                 base,
                 length: size,
             }),
-            BodyValues::Exec {
-                pid,
-                base,
-                size,
-                image,
-            } => {
-                let image = self.image(alloc, image)?;
-                Ok(Record::Exec {
-                    pid,
-                    base,
-                    length: size,
-                    image,
-                })
+            BodyValues::Exec(mapping) => {
+                let image = self.image(alloc, mapping.image)?;
+                Ok(mapping.exec(image))
             }
             BodyValues::Exit { pid } => Ok(Record::Exit { pid }),
             BodyValues::Kernel { base, size, image } => {

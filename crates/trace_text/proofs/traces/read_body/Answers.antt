@@ -1,7 +1,6 @@
-use Rattle.std.proofs.Common.{◌∷◌, ◌++◌, ℕ, sym, ap, refl, subst, ◌∙◌, ◌+◌, [], arith}
+use Rattle.std.proofs.Common.{◌∷◌, ◌++◌, sym, refl, subst, ◌∙◌, ◌+◌, [], arith}
 use Rattle.std.specs.Io.KnownBytes.{prepend_known}
-use Rattle.trace_text.specs.State.{said_in_body, said_with_steps}
-use Rattle.trace_text.specs.Judging.{size_shown}
+use Rattle.trace_text.specs.State.{said_in_body}
 use Rattle.std.proofs.lemmas.Result.{err_from_is_err_and}
 use Rattle.trace_text.proofs.Walking.{went_on, went_length}
 use Rattle.trace_text.proofs.Phasing.{halts_on, body_bound}

@@ -1,6 +1,5 @@
-use Rattle.std.proofs.Common.{ℕ, sym, ap, refl, subst, ◌∙◌, ◌+◌, [], arith}
+use Rattle.std.proofs.Common.{sym, ap, refl, ◌∙◌, [], arith}
 use Rattle.std.specs.Io.KnownBytes.{prepend_known}
-use Rattle.trace_text.specs.State.{said_in_body, said_with_steps}
 use Rattle.trace_text.specs.Judging.{size_shown}
 use Rattle.trace_text.proofs.Walking.{went_line, stops_finished, stops_stopped, stops_long}
 use Rattle.trace_text.proofs.Phasing.{halted_at}

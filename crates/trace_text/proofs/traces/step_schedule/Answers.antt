@@ -1,7 +1,6 @@
-use Rattle.std.proofs.Common.{ℕ, sym, ap, refl, subst, ◌∙◌, ◌+◌, [], arith}
+use Rattle.std.proofs.Common.{sym, ap, ◌∙◌}
 use Rattle.std.specs.Io.KnownBytes.{prepend_known}
-use Rattle.trace_text.specs.State.{said_in_body, said_with_steps}
-use Rattle.trace_text.specs.Judging.{size_shown}
+use Rattle.trace_text.specs.State.{said_with_steps}
 use Rattle.std.proofs.lemmas.Bool.{eqb-false}
 use Rattle.std.proofs.Common.{length}
 use Rattle.trace_model.specs.Grammar.{why_no_form}

@@ -1,10 +1,7 @@
-use Rattle.std.proofs.Common.{◌≡◌, List, ◌++◌, ◌∷◌, [], sym, subst, arith}
-use Rattle.trace_model.specs.Said.{Said}
-use Rattle.trace_model.specs.Grammar.{first_that_applies, value_tests}
-use Rattle.trace_text.specs.declared.body.BodyValues.{BodyValues}
+use Rattle.std.proofs.Common.{arith}
 use Rattle.trace_text.specs.Forms.{values_shown}
-use Rattle.trace_text.specs.State.{IsSound, said_in_body}
-use Rattle.trace_text.proofs.Adding.{record_added, sample_added}
+use Rattle.trace_text.specs.State.{said_in_body}
+use Rattle.trace_text.proofs.Adding.{record_added}
 use Rattle.trace_text.proofs.Judged.{passes}
 use Rattle.trace_text.proofs.BodySteps.{entry_of_values, few_records, sample_taken}
 use Rattle.trace_text.proofs.body_state.Body.add.Goals as goal

@@ -1,4 +1,4 @@
-use Rattle.std.proofs.Common.{ℕ, Bool, ◌||◌, not, nat_le, if◌then◌else◌, Some, None, ap, ◌∙◌}
+use Rattle.std.proofs.Common.{ℕ, ◌||◌, not, nat_le, if◌then◌else◌, Some, None, ap, ◌∙◌}
 use Rattle.trace_model.specs.declared.reasons.TraceWhy.TheVariants.{NoSuchCpu, ScanTooLate, TooManySamples, TooManyRecords}
 use Rattle.trace_text.proofs.BodySteps.{by_kind}
 use Rattle.trace_text.proofs.body_state.Body.context.Goals as goal

@@ -1,4 +1,4 @@
-use Rattle.std.proofs.Common.{ℕ, List, sym, subst, ◌∙◌}
+use Rattle.std.proofs.Common.{ℕ, List, sym, subst}
 use Rattle.trace_text.specs.Taking.{NamesImage}
 use Rattle.trace_text.proofs.Adding.{image_known}
 use Rattle.trace_text.proofs.body_state.Body.image.Goals as goal

@@ -1,4 +1,3 @@
-use Rattle.std.proofs.Common.{sym}
 use Rattle.trace_text.specs.State.{said_in_body}
 use Rattle.trace_text.specs.Forms.{body_shown, values_shown}
 use Rattle.trace_text.proofs.BodySteps.{unread, unaligned, untitled, against, good, passing}

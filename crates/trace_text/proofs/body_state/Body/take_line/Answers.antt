@@ -1,4 +1,4 @@
-use Rattle.std.proofs.Common.{sym, ◌∙◌}
+use Rattle.std.proofs.Common.{◌∙◌}
 use Rattle.std.proofs.lemmas.Result.{err_from_is_err_and}
 use Rattle.trace_text.specs.Forms.{body_shown, values_shown}
 use Rattle.trace_text.proofs.BodySteps.{by_form, by_no_form, takes}
