@@ -8,6 +8,7 @@ pub mod Lists
 pub mod Names
 pub mod NextHead
 pub mod Order
+pub mod Parts
 pub mod Phases
 pub mod RowOrders
 pub mod SealNames

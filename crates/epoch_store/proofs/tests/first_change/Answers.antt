@@ -1,9 +1,8 @@
 -- Each part of the change fits.
-use Rattle.std.proofs.Common.{rules, ◌≡◌, ◌⊎◌, ◌+◌, List, [], ◌++◌, length, map, true, refl, inl, ◌∙◌, sym, ap, subst}
+use Rattle.std.proofs.Common.{◌≡◌, List, ◌++◌, length, map, ◌∙◌, ap}
 use Rattle.std.specs.List.{list_all}
 use Rattle.database_state.specs.Rows.{is_rising, unknown_before}
-use Rattle.database_state.specs.Updates.{UnknownUpdate, is_known_update, is_unknown_update, unknown_row_of}
-use Rattle.image_catalog.specs.Images.{AreImages}
+use Rattle.database_state.specs.Updates.{UnknownUpdate, is_unknown_update, unknown_row_of}
 use Rattle.epoch_store.specs.Databases.{head_of}
 use Rattle.epoch_store.proofs.tests.first_change.Goals as goal
 

@@ -1,5 +1,5 @@
 -- A name that is not held, where there is room for it.
-use Rattle.std.proofs.Common.{rules, arith, ◌≡◌, ◌<◌, List, [], ◌∷◌, ◌++◌, None, length, ◌∙◌, sym, ap, subst}
+use Rattle.std.proofs.Common.{rules, arith, ◌≡◌, ◌<◌, [], ◌∷◌, ◌++◌, None, length, sym, ap, subst}
 use Rattle.image_catalog.specs.Images.{place_of, AreImages}
 use Rattle.image_catalog.proofs.Places.{one_more}
 use Rattle.epoch_store.proofs.tests.new_names.Goals as goal

@@ -1,5 +1,5 @@
 -- The images are images.
-use Rattle.std.proofs.Common.{◌≡◌, ◌++◌, [], append-nil, ◌∙◌, sym, ap, subst}
+use Rattle.std.proofs.Common.{◌++◌, append-nil, ◌∙◌, sym, ap, subst}
 use Rattle.image_catalog.specs.Images.{AreImages}
 use Rattle.epoch_store.specs.Databases.{head_of}
 use Rattle.epoch_store.proofs.tests.no_names.Goals as goal

@@ -1,5 +1,5 @@
 -- Each part of the change fits.
-use Rattle.std.proofs.Common.{rules, ◌≡◌, ◌++◌, length, inl, ◌∙◌, ap}
+use Rattle.std.proofs.Common.{◌≡◌, ◌++◌, length, inl, ◌∙◌, ap}
 use Rattle.epoch_store.specs.Databases.{head_of}
 use Rattle.epoch_store.proofs.tests.second_change.Goals as goal
 
