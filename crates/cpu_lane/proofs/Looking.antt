@@ -4,10 +4,9 @@ use Rattle.std.proofs.lemmas.Bool.{cond-true, cond-false, both_ways}
 use Rattle.sample_key.specs.Counted.{Counted}
 use Rattle.driver_model.specs.Table.{Table, empty_table}
 use Rattle.driver_model.specs.Sides.{Slot, Side, is_even, slot_of, side_look_table, side_look_buffer}
-use Rattle.driver_model.specs.Driver.{Driver, World, Two, activate, other, regain, look_other, look_both, find_buffer}
+use Rattle.driver_model.specs.Driver.{Driver, World, Two, activate, other, regain, look_other, look_both}
 use Rattle.driver_laws.specs.Turns.{IsFair}
 use Rattle.overflow_pair.specs.Contents.{Contents, empty_buffer}
-use Rattle.cpu_lane.specs.Seen.{entries_if}
 use Rattle.cpu_lane.specs.Steps.{Is, with_active, looked, both_out, IsFairWord, Finds}
 use Rattle.cpu_lane.specs.declared.states.Found.{Found}
 use Rattle.cpu_lane.specs.declared.states.Found.TheVariants.{Holds}
@@ -96,16 +95,3 @@ both_other d e v x w b r found number odd fair side more =
       (subst (λ (z : Side). IsFairWord z.first more.0) s k, (λ o. f)),
     ))
     fair side more.1 more.2
-
--- a buffer was active
-pub found_active : (d : Driver) (v : Side) (o : Option Contents) (buffer : Contents) (size : ℕ) → o ≡ Some buffer → d.pair.active ≡ entries_if o → buffer.size ≡ size
-    → (h : Two) × Finds (find_buffer h d v (entries_if o)) size (record d { pair = record d.pair { active = None } }) v (Holds buffer) × IsFair v h
-found_active d v o buffer size is active same =
-    let h : Two = record { first = 0; second = 0 } in
-    let a : d.pair.active ≡ Some buffer.entries = active ∙ ap (λ (c : Option Contents). entries_if c) is in
-    let e : with_active (record d { pair = record d.pair { active = None } }) buffer.entries ≡ d =
-    ap (λ (l : Option (List Counted)). record d { pair = record d.pair { active = l } }) (sym a) in (
-      h,
-      subst (λ (c : Option Contents). Finds (find_buffer h d v (entries_if c)) size (record d { pair = record d.pair { active = None } }) v (Holds buffer)) (sym is) ((e, refl), same),
-      ((λ z. absurd (both_ways true z refl)), (λ z. absurd (both_ways true z refl))),
-    )

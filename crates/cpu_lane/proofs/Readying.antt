@@ -1,4 +1,4 @@
-use Rattle.std.proofs.Common.{◌≡◌, ℕ, ◌+◌, ◌/◌, ◌<◌, ◌≤◌, List, [], ◌∷◌, length, drop, refl, sym, ◌∙◌, ap, subst, arith, true, false, Some, None, Option, eqb, ◌&&◌, length-append}
+use Rattle.std.proofs.Common.{◌≡◌, ℕ, ◌+◌, ◌/◌, ◌<◌, ◌≤◌, List, [], ◌∷◌, ◌++◌, length, drop, refl, sym, ◌∙◌, ap, subst, arith, true, false, Some, None, Option, eqb, ◌&&◌, length-append}
 use Rattle.std.specs.Prelude.{is_some}
 use Rattle.std.proofs.lemmas.Bool.{cond_both}
 use Rattle.sample_key.specs.Counted.{Counted}
@@ -183,16 +183,16 @@ find_stays h d v None =
     (λ odd. let s = look_stays d x (other b) (word_at h (other b)) in record { at = s.at; table = s.table; heard = s.heard ∙ heard })
 
 -- where a buffer was found, or both are out, the driver is that of the definition
-pub found_ready : (u : Setup) (f g : Fixed) (h : Two) (d : Driver) (v : Side) (e : Driver) (w : Side) → Ready u f d v → Is (find_buffer h d v d.pair.active) e w → g ≡ f → Ready u g e w
-found_ready u f g h d v e w r is same =
-    let y = find_buffer h d v d.pair.active in
-    subst (λ (k : Fixed). Ready u k e w) (sym same) (subst (λ (z : Driver). Ready u f z w) (sym is.0) (subst (λ (z : Side). Ready u f y.driver z) (sym is.1)
-    (ready_find u f h d v d.pair.active r refl)))
+pub found_ready : (u : Setup) (f g : Fixed) (h : Two) (d : Driver) (v : Side) (e : Driver) (w : Side) → Ready u f d v → d.pair.active ≡ None → Is (look_both h d v d.pair.next) e w → g ≡ f → Ready u g e w
+found_ready u f g h d v e w r none is same =
+    let y = look_both h d v d.pair.next in
+    subst (λ (k : Fixed). Ready u k e w) (sym same)
+    (subst (λ (z : Driver). Ready u f z w) (sym is.0) (subst (λ (z : Side). Ready u f y.driver z) (sym is.1) (ready_find u f h d v None r none)))
 
 -- what was found leaves the samples, the table and the bell
-pub found_stays : (h : Two) (d : Driver) (v : Side) (e : Driver) (w : Side) → Is (find_buffer h d v d.pair.active) e w → (e.at ≡ d.at) × (e.table ≡ d.table) × (w.heard ≡ v.heard)
+pub found_stays : (h : Two) (d : Driver) (v : Side) (e : Driver) (w : Side) → Is (look_both h d v d.pair.next) e w → (e.at ≡ d.at) × (e.table ≡ d.table) × (w.heard ≡ v.heard)
 found_stays h d v e w is =
-    let s = find_stays h d v d.pair.active in
+    let s = find_stays h d v None in
     (ap (λ (z : Driver). z.at) is.0 ∙ s.at, ap (λ (z : Driver). z.table) is.0 ∙ s.table, ap (λ (z : Side). z.heard) is.1 ∙ s.heard)
 
 -- the next sample is still due
@@ -216,15 +216,17 @@ abbrev HandsFrom : Side → ℕ → Buffers → Type 0
 HandsFrom v at p = (p.active_number ≤ 1) × (v.first.holds ≡ eqb p.active_number 0) × (v.second.holds ≡ eqb p.active_number 1)
     × (p.hands0 ≡ length v.first.handed) × (p.hands1 ≡ length v.second.handed) × (p.hands0 ≤ at) × (p.hands1 ≤ at)
 
--- the buffer that the sample filled can be handed
-pub can_push : (u : Setup) (f : Fixed) (d e : Driver) (v : Side) (b c : Contents) (x : Counted) (k : Key) (o : Option Table) → Ready u f (with_active d b.entries) v → IsDue u d v k
-    → e ≡ take_next d k o → c ≡ pushed b x → b.size ≡ u.size → CanHand u f e v c
-can_push u f d e v b c x k o r n is pushes size =
+-- the buffer with what the sample needs written can be handed
+pub can_push : (u : Setup) (f : Fixed) (d e : Driver) (v : Side) (b : Contents) (x : Counted) (k : Key) (o : Option Table) → Ready u f (with_active d b.entries) v → IsDue u d v k
+    → e ≡ take_next d k o → b.size ≡ u.size → CanHand u f e v (pushed b x)
+can_push u f d e v b x k o r n is size =
     let t = taken d k o in
     let at : e.at ≡ d.at + 1 = ap (λ (z : Driver). z.at) is ∙ t.0 in
     let pair : e.pair ≡ d.pair = ap (λ (z : Driver). z.pair) is ∙ t.1 in
-    let more : length c.entries ≡ length b.entries + 1 = ap (λ (z : Contents). length z.entries) pushes ∙ length-append b.entries (x ∷ []) in
+    let more : length (b.entries ++ x ∷ []) ≡ length b.entries + 1 = length-append b.entries (x ∷ []) in
     let up : d.at + 1 ≤ due u.samples (v.heard / 2) = due_next u.samples 0 d.at (v.heard / 2) n.0 n.1 r.setup.rising n.2 n.4 in
-    let room : RoomFor 1 (length c.entries) v.room = less_room 2 1 (length (table_entries d.table) + length b.entries + 1) (length c.entries) v.room (omega arith) (omega (arith, more)) r.room in
-    let h : HandsFrom v e.at e.pair = subst (λ (p : Buffers). HandsFrom v e.at p) (sym pair) (r.number, r.holds0, r.holds1, r.hands0, r.hands1, omega (arith, r.few0, at), omega (arith, r.few1, at)) in
-    can_hand u f e v c r.setup r.side h.0 h.1 h.2 h.3 h.4 h.5 h.6 (omega (arith, up, at)) (omega (arith, r.held, more, at)) room (ap (λ (z : Contents). z.size) pushes ∙ size)
+    let room : RoomFor 1 (length (b.entries ++ x ∷ [])) v.room =
+    less_room 2 1 (length (table_entries d.table) + length b.entries + 1) (length (b.entries ++ x ∷ [])) v.room (omega arith) (omega (arith, more)) r.room in
+    let h : HandsFrom v e.at e.pair = subst (λ (p : Buffers). HandsFrom v e.at p) (sym pair)
+    (r.number, r.holds0, r.holds1, r.hands0, r.hands1, omega (arith, r.few0, at), omega (arith, r.few1, at)) in
+    can_hand u f e v (pushed b x) r.setup r.side h.0 h.1 h.2 h.3 h.4 h.5 h.6 (omega (arith, up, at)) (omega (arith, r.held, more, at)) room size

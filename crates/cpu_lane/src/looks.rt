@@ -1,12 +1,11 @@
 ghost use Rattle.std.specs.Prelude.{◌≡◌, ℕ, ◌≤◌, false, is_some, None};
 ghost use Rattle.driver_model.specs.Sides.{slot_of};
-ghost use Rattle.driver_model.specs.Driver.{Two, other, regain, look_both, find_buffer};
+ghost use Rattle.driver_model.specs.Driver.{Two, other, regain, look_both};
 ghost use Rattle.driver_laws.specs.Turns.{IsFair};
-ghost use Rattle.cpu_lane.specs.Seen.{setup_of, driver_of, IsSound};
+ghost use Rattle.cpu_lane.specs.Seen.{driver_of};
 ghost use Rattle.cpu_lane.specs.Steps.{Is, looked, both_out, IsFairWord, Finds};
-ghost use Rattle.cpu_lane.specs.Ready.{Ready};
 
-use crate::states::{Found, Made, State};
+use crate::states::{Found, State};
 use lane_side::{LaneSide, Look};
 
 // Both buffers are out, with these words: the one that was looked at last, and the other.
@@ -61,7 +60,7 @@ impl State {
     }
 
     // Looks at the next buffer, then, where that is out, at the other.
-    fn look_both<S: LaneSide>(&mut self, side: &mut S) -> Found
+    pub(crate) fn look_both<S: LaneSide>(&mut self, side: &mut S) -> Found
         requires next { self.old.pair.next ≤ 1 }
         requires free0 { (S.seen side.old).first.holds ≡ false }
         requires free1 { (S.seen side.old).second.holds ≡ false }
@@ -79,22 +78,6 @@ impl State {
                 Found::Holds(buffer)
             }
             Look::Out(word) => self.look_other(side, 1 - b, word),
-        }
-    }
-
-    // The active buffer, which is taken out; where there is none, looks for one.
-    pub(crate) fn find_buffer<S: LaneSide>(&mut self, made: &Made, side: &mut S) -> Found
-        requires sound { IsSound made.now self.old }
-        requires ready { Ready (setup_of made.now) (S.fixed side.old) (driver_of self.old) (S.seen side.old) }
-        ensures found { (h : Two) × Finds (find_buffer h (driver_of self.old) (S.seen side.old) (driver_of self.old).pair.active) made.now.plan.buffer (driver_of self.new) (S.seen side.new) result × IsFair (S.seen side.old) h }
-        ensures gone { self.new.pair.active ≡ None }
-        ensures losses { self.new.losses ≡ self.old.losses }
-        ensures far { S.far side.new ≡ S.far side.old }
-        ensures fixed { S.fixed side.new ≡ S.fixed side.old }
-    {
-        match self.pair.active.take() {
-            Some(buffer) => Found::Holds(buffer),
-            None => self.look_both(side),
         }
     }
 }
