@@ -1,4 +1,4 @@
-use Rattle.std.proofs.Common.{◌≡◌, ℕ, ◌≤◌, List, [], ◌∷◌, ◌++◌, subst, sym, arith}
+use Rattle.std.proofs.Common.{◌≡◌, ℕ, ◌≤◌, List, [], ◌∷◌, ◌++◌, arith}
 use Rattle.sample_key.specs.Marks.{IsRising, RisesFrom, MarksUpTo}
 use Rattle.sample_key.specs.declared.keys.Marked.{Marked}
 use Rattle.driver_bench.specs.Plays.{HaveMark}

@@ -1,18 +1,16 @@
-use Rattle.std.proofs.Common.{◌≡◌, ℕ, zero, suc, ◌+◌, ◌*◌, ◌≤◌, List, [], ◌∷◌, ◌++◌, length, refl, sym, ◌∙◌, ap, subst, arith, Bool, true, false, Some, None, Option, eqb}
+use Rattle.std.proofs.Common.{◌≡◌, ℕ, zero, suc, ◌+◌, ◌*◌, ◌≤◌, List, [], ◌∷◌, ◌++◌, length, refl, sym, ◌∙◌, ap, subst, arith, false, Some, None, Option, eqb}
 use Rattle.std.specs.Prelude.{IfSome}
 use Rattle.std.proofs.lemmas.Bool.{cond_both}
 use Rattle.driver_model.specs.Sides.{Room, Side}
 use Rattle.sample_key.specs.Sent.{Sent}
 use Rattle.driver_model.specs.Handover.{FarSide, slot_polled, last_from, rung_of, side_poll_buffer, side_poll_table, side_called, far_took_buffer, far_gave_buffer, far_took_table, far_gave_table, far_rang}
-use Rattle.driver_model.specs.Driver.{Driver}
 use Rattle.driver_model.specs.Invariant.{DriverInvariant}
 use Rattle.driver_laws.specs.Turns.{hands_in, entries_handed}
 use Rattle.driver_laws.proofs.Polls.{kept_polled, kept_polled_table, kept_called}
 use Rattle.lane_side.specs.Fixed.{Fixed}
 use Rattle.lane_side.specs.Plain.{Plain}
 use Rattle.cpu_lane.specs.Seen.{Seen}
-use Rattle.cpu_lane.specs.Ready.{IsSideOf}
-use Rattle.cpu_lane.specs.Runs.{HasLeft, Runs}
+use Rattle.cpu_lane.specs.Runs.{Runs}
 use Rattle.driver_bench.specs.Plays.{Plays}
 
 -- the daemon's calls leave a lane running

@@ -46,54 +46,52 @@ fn repeat(samples: &mut Vec<Marked>, count: usize, pc: u64, mark: u64) -> Result
     Ok(())
 }
 
-impl Play {
-    // So many turns; how many of them took a sample.
-    fn turns(&mut self, count: usize) -> usize
-        ensures requests { self.new.requests ≡ self.old.requests }
-        ensures rungs { self.new.side.far.rungs ≡ self.old.side.far.rungs }
-    {
-        let mut taken: usize = 0;
-        for _ in 0..count {
-            if self.turn() == Turn::Took {
-                taken = taken.saturating_add(1);
-            }
-        }
-        taken
-    }
-
-    // Takes buffer b where it was handed, copies its entries, and gives it back empty.
-    fn copy_buffer(&mut self, b: u8, out: &mut Vec<Entry>) -> Result<(), AllocError>
-        requires { b ≤ 1 }
-        ensures requests { self.new.requests ≡ self.old.requests }
-        ensures rungs { self.new.side.far.rungs ≡ self.old.side.far.rungs }
-    {
-        match self.side.poll_buffer(b) {
-            PollOf::Parcel(parcel) => {
-                let mut buffer = parcel.body;
-                let copied = buffer.copy_to(out);
-                buffer.clear();
-                self.side.return_buffer(b, buffer);
-                copied
-            }
-            PollOf::Home(_) => Ok(()),
+// So many turns; how many of them took a sample.
+fn turns(play: &mut Play, count: usize) -> usize
+    ensures requests { play.new.requests ≡ play.old.requests }
+    ensures rungs { play.new.side.far.rungs ≡ play.old.side.far.rungs }
+{
+    let mut taken: usize = 0;
+    for _ in 0..count {
+        if play.turn() == Turn::Took {
+            taken = taken.saturating_add(1);
         }
     }
+    taken
+}
 
-    // Takes the table where it was handed, copies its entries, and gives it back empty.
-    fn copy_table(&mut self, out: &mut Vec<Entry>) -> Result<(), AllocError>
-        ensures requests { self.new.requests ≡ self.old.requests }
-        ensures rungs { self.new.side.far.rungs ≡ self.old.side.far.rungs }
-    {
-        match self.side.poll_table() {
-            PollOf::Parcel(parcel) => {
-                let mut table = parcel.body;
-                let copied = table.copy_to(out);
-                table.clear();
-                self.side.return_table(table);
-                copied
-            }
-            PollOf::Home(_) => Ok(()),
+// Takes buffer b where it was handed, copies its entries, and gives it back empty.
+fn copy_buffer(play: &mut Play, b: u8, out: &mut Vec<Entry>) -> Result<(), AllocError>
+    requires { b ≤ 1 }
+    ensures requests { play.new.requests ≡ play.old.requests }
+    ensures rungs { play.new.side.far.rungs ≡ play.old.side.far.rungs }
+{
+    match play.side.poll_buffer(b) {
+        PollOf::Parcel(parcel) => {
+            let mut buffer = parcel.body;
+            let copied = buffer.copy_to(out);
+            buffer.clear();
+            play.side.return_buffer(b, buffer);
+            copied
         }
+        PollOf::Home(_) => Ok(()),
+    }
+}
+
+// Takes the table where it was handed, copies its entries, and gives it back empty.
+fn copy_table(play: &mut Play, out: &mut Vec<Entry>) -> Result<(), AllocError>
+    ensures requests { play.new.requests ≡ play.old.requests }
+    ensures rungs { play.new.side.far.rungs ≡ play.old.side.far.rungs }
+{
+    match play.side.poll_table() {
+        PollOf::Parcel(parcel) => {
+            let mut table = parcel.body;
+            let copied = table.copy_to(out);
+            table.clear();
+            play.side.return_table(table);
+            copied
+        }
+        PollOf::Home(_) => Ok(()),
     }
 }
 
@@ -146,7 +144,7 @@ fn entry_at(pc: u64, count: u32) -> Entry
 fn a_sample_is_lost_where_both_buffers_are_out(rt: HostRuntime) -> Result<(), Fail> {
     let samples = rising(rt.alloc(), 7, 0)?;
     let mut play = begin(rt.alloc(), samples, 0, 0, 1, 1)?;
-    assert_eq!(rt; play.turns(6), 6);
+    assert_eq!(rt; turns(&mut play, 6), 6);
     assert_eq!(rt; play.turn(), lost(6));
     assert_eq!(rt; play.turn(), Turn::Idle);
     let stats = Stats {
@@ -158,8 +156,8 @@ fn a_sample_is_lost_where_both_buffers_are_out(rt: HostRuntime) -> Result<(), Fa
     };
     assert_eq!(rt; play.lane.stats(), stats);
     let mut out = Vec::new(rt.alloc());
-    play.copy_buffer(0, &mut out)?;
-    play.copy_buffer(1, &mut out)?;
+    copy_buffer(&mut play, 0, &mut out)?;
+    copy_buffer(&mut play, 1, &mut out)?;
     let want = [entry_at(0x1000, 1), entry_at(0x1004, 1)];
     assert_eq!(rt; out.as_slice(), want.as_slice());
     let losses = play.lane.into_losses();
@@ -172,7 +170,7 @@ fn a_sample_is_lost_where_both_buffers_are_out(rt: HostRuntime) -> Result<(), Fa
 fn the_second_look_finds_a_buffer(rt: HostRuntime) -> Result<(), Fail> {
     let samples = rising(rt.alloc(), 7, 0)?;
     let mut play = begin(rt.alloc(), samples, 0, 0, 1, 1)?;
-    assert_eq!(rt; play.turns(6), 6);
+    assert_eq!(rt; turns(&mut play, 6), 6);
     assert_eq!(rt; play.drain(1), true);
     assert_eq!(rt; play.turn(), Turn::Took);
     let stats = Stats {
@@ -193,7 +191,7 @@ fn the_largest_entry_is_written(rt: HostRuntime) -> Result<(), Fail> {
     let mut samples = Vec::new(rt.alloc());
     repeat(&mut samples, 65_536, 0x1000, 0)?;
     let mut play = begin(rt.alloc(), samples, 0, 0, 4096, 8192)?;
-    assert_eq!(rt; play.turns(65_536), 65_536);
+    assert_eq!(rt; turns(&mut play, 65_536), 65_536);
     let stats = Stats {
         folded: 65_534,
         placed: 1,
@@ -206,8 +204,8 @@ fn the_largest_entry_is_written(rt: HostRuntime) -> Result<(), Fail> {
     assert_eq!(rt; play.turn(), Turn::Done);
     assert_eq!(rt; play.turn(), Turn::Done);
     let mut out = Vec::new(rt.alloc());
-    play.copy_buffer(0, &mut out)?;
-    play.copy_table(&mut out)?;
+    copy_buffer(&mut play, 0, &mut out)?;
+    copy_table(&mut play, &mut out)?;
     let want = [entry_at(0x1000, 65_535), entry_at(0x1000, 1)];
     assert_eq!(rt; out.as_slice(), want.as_slice());
     Ok(())
@@ -218,7 +216,7 @@ fn the_largest_entry_stays_where_it_cannot_be_written(rt: HostRuntime) -> Result
     let mut samples = rising(rt.alloc(), 6, 0)?;
     repeat(&mut samples, 65_535, 0x1010, 0)?;
     let mut play = begin(rt.alloc(), samples, 0, 0, 1, 1)?;
-    assert_eq!(rt; play.turns(65_540), 65_540);
+    assert_eq!(rt; turns(&mut play, 65_540), 65_540);
     assert_eq!(rt; play.turn(), lost(65_540));
     let stats = Stats {
         folded: 65_534,
@@ -231,7 +229,7 @@ fn the_largest_entry_stays_where_it_cannot_be_written(rt: HostRuntime) -> Result
     play.ring(1);
     assert_eq!(rt; play.turn(), Turn::Done);
     let mut out = Vec::new(rt.alloc());
-    play.copy_table(&mut out)?;
+    copy_table(&mut play, &mut out)?;
     assert_eq!(rt; out.len(), 4);
     assert_eq!(rt; out[0], entry_at(0x1010, 65_535));
     Ok(())
@@ -255,7 +253,7 @@ fn samples_go_to_a_buffer_while_the_table_is_out(rt: HostRuntime) -> Result<(), 
     };
     assert_eq!(rt; play.lane.stats(), stats);
     let mut out = Vec::new(rt.alloc());
-    play.copy_table(&mut out)?;
+    copy_table(&mut play, &mut out)?;
     assert_eq!(rt; out.as_slice(), [entry_at(0x1000, 1)].as_slice());
     Ok(())
 }

@@ -1,4 +1,4 @@
-use Rattle.std.proofs.Common.{◌≡◌, ℕ, ◌*◌, ◌≤◌, sym, ◌∙◌, ap, subst, arith}
+use Rattle.std.proofs.Common.{◌∙◌, ap, arith}
 use Rattle.driver_model.specs.Handover.{FarSide, rung_of}
 use Rattle.driver_bench.specs.Plays.{Both}
 use Rattle.driver_bench.proofs.Playing.{last_push, plays_rung}
