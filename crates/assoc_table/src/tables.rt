@@ -26,6 +26,9 @@ impl Model for AssocTable {
     ghost invariant = { λ t. (1 ≤ length t.rows.items) × (length t.rows.items ≤ 4096) × (t.turn < 4) };
 }
 
+// The usual number of buckets. A division by a number that is known beforehand costs little.
+const USUAL: usize = 4_096;
+
 // The bucket of a key among so many.
 fn bucket(buckets: usize, key: &Key) -> usize
     requires { 1 ≤ buckets }
@@ -33,8 +36,11 @@ fn bucket(buckets: usize, key: &Key) -> usize
     ensures within { result < buckets }
 {
     let Key { pid, pc, event } = *key;
-    let mixed = pc / 4 + 7 * u64::from(pid) + u64::from(event.code());
-    mixed as usize % buckets
+    let mixed = (pc / 4 + 7 * u64::from(pid) + u64::from(event.code())) as usize;
+    match buckets {
+        USUAL => mixed % USUAL,
+        _ => mixed % buckets,
+    }
 }
 
 impl AssocTable {
