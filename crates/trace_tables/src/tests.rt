@@ -107,62 +107,132 @@ fn a_fault_of_the_sink_is_told(rt: HostRuntime) -> Result<(), Fail> {
     Ok(())
 }
 
+/// Lines to which two reasons apply, and the line and the reason that is told.
+const TWO_FAULTS: &[(&[u8], u64, TraceWhy)] = &[
+    (b"dcpi-trace 2 cpus 01\n", 1, TraceWhy::NotHeader),
+    (b"s 0 7 1000 cycles\n", 1, TraceWhy::NotHeader),
+    (
+        b"dcpi-trace 1 cpus 1\ns 0 07 1000 stalls\n",
+        2,
+        TraceWhy::BadWord,
+    ),
+    (b"dcpi-trace 1 cpus 1\nend\ns 0 7\n", 3, TraceWhy::AfterEnd),
+    (
+        b"dcpi-trace 1 cpus 1\nend\nd 00 3 0\n",
+        3,
+        TraceWhy::AfterEnd,
+    ),
+    (
+        b"dcpi-trace 1 cpus 1\nend\nd 00 3\n",
+        3,
+        TraceWhy::BadNumber,
+    ),
+    (
+        b"dcpi-trace 1 cpus 1\ns 16 07 1000 cycles\n",
+        2,
+        TraceWhy::BadNumber,
+    ),
+    (
+        b"dcpi-trace 1 cpus 1\ns 16 7 1002 cycles\n",
+        2,
+        TraceWhy::OutOfRange,
+    ),
+    (
+        b"dcpi-trace 1 cpus 1\nload 7 2 4 \x7f\n",
+        2,
+        TraceWhy::Unaligned,
+    ),
+    (
+        b"dcpi-trace 1 cpus 1\ns 1 7 1002 cycles\n",
+        2,
+        TraceWhy::Unaligned,
+    ),
+    (
+        b"dcpi-trace 1 cpus 1\ndrain\nscan 7 0 4 \x7f\n",
+        3,
+        TraceWhy::BadName,
+    ),
+    (
+        b"dcpi-trace 1 cpus 1\ns 1 7 1002 stalls",
+        2,
+        TraceWhy::NoEnd,
+    ),
+];
+
 #[test]
 fn of_two_reasons_the_first_is_told(rt: HostRuntime) {
-    for (text, line, why) in [
-        (b"dcpi-trace 2 cpus 01\n".as_slice(), 1, TraceWhy::NotHeader),
-        (b"s 0 7 1000 cycles\n", 1, TraceWhy::NotHeader),
-        (
-            b"dcpi-trace 1 cpus 1\ns 0 07 1000 stalls\n",
-            2,
-            TraceWhy::BadWord,
-        ),
-        (b"dcpi-trace 1 cpus 1\nend\ns 0 7\n", 3, TraceWhy::AfterEnd),
-        (
-            b"dcpi-trace 1 cpus 1\nend\nd 00 3 0\n",
-            3,
-            TraceWhy::AfterEnd,
-        ),
-        (
-            b"dcpi-trace 1 cpus 1\nend\nd 00 3\n",
-            3,
-            TraceWhy::BadNumber,
-        ),
-        (
-            b"dcpi-trace 1 cpus 1\ns 16 07 1000 cycles\n",
-            2,
-            TraceWhy::BadNumber,
-        ),
-        (
-            b"dcpi-trace 1 cpus 1\ns 16 7 1002 cycles\n",
-            2,
-            TraceWhy::OutOfRange,
-        ),
-        (
-            b"dcpi-trace 1 cpus 1\nload 7 2 4 \x7f\n",
-            2,
-            TraceWhy::Unaligned,
-        ),
-        (
-            b"dcpi-trace 1 cpus 1\ns 1 7 1002 cycles\n",
-            2,
-            TraceWhy::Unaligned,
-        ),
-        (
-            b"dcpi-trace 1 cpus 1\ndrain\nscan 7 0 4 \x7f\n",
-            3,
-            TraceWhy::BadName,
-        ),
-        (
-            b"dcpi-trace 1 cpus 1\ns 1 7 1002 stalls",
-            2,
-            TraceWhy::NoEnd,
-        ),
-    ] {
+    for (text, line, why) in TWO_FAULTS {
+        let (line, why) = (*line, *why);
         let refusal = read(rt.alloc(), text).err();
         assert!(rt; refusal == Some(TraceRefusal::Bad { line, why }));
     }
 }
+
+const HEADER: &[u8] = b"dcpi-trace 1 cpus 1\n";
+
+const ENDED: &[u8] = b"dcpi-trace 1 cpus 1\nend\n";
+
+const SAMPLE: &[u8] = b"s 0 7 0 cycles\n";
+
+/// As many good lines as there may be, the line behind them, and the reason that is told of it.
+const LIMITS: &[(&[u8], &[u8], u32, &[u8], u64, TraceWhy)] = &[
+    (
+        HEADER,
+        SAMPLE,
+        2_000_000,
+        SAMPLE,
+        2_000_002,
+        TraceWhy::TooManySamples,
+    ),
+    (
+        HEADER,
+        SAMPLE,
+        2_000_000,
+        b"s 1 7 0 cycles\n",
+        2_000_002,
+        TraceWhy::NoSuchCpu,
+    ),
+    (
+        HEADER,
+        b"drain\n",
+        65_536,
+        b"exit 7\n",
+        65_538,
+        TraceWhy::TooManyRecords,
+    ),
+    (
+        HEADER,
+        b"drain\n",
+        65_536,
+        b"scan 7 0 4 A\n",
+        65_538,
+        TraceWhy::ScanTooLate,
+    ),
+    (
+        HEADER,
+        b"merge\n",
+        1_024,
+        b"epoch\n",
+        1_026,
+        TraceWhy::TooManyRecords,
+    ),
+    (
+        ENDED,
+        b"a\n",
+        4_000_000,
+        b"a\n",
+        4_000_003,
+        TraceWhy::TooManyRecords,
+    ),
+    (
+        ENDED,
+        b"a\n",
+        4_000_000,
+        b"l 1\n",
+        4_000_003,
+        TraceWhy::NoSuchCpu,
+    ),
+];
 
 /// The refusal of a front, a line so many times, and a back.
 fn refusal_of(
@@ -182,68 +252,9 @@ fn refusal_of(
 
 #[test]
 fn limits_are_kept(rt: HostRuntime) -> Result<(), Fail> {
-    let header = b"dcpi-trace 1 cpus 1\n".as_slice();
-    let sample = b"s 0 7 0 cycles\n".as_slice();
-    let ended = b"dcpi-trace 1 cpus 1\nend\n".as_slice();
-    for (front, good, times, bad, line, why) in [
-        (
-            header,
-            sample,
-            2_000_000,
-            sample,
-            2_000_002,
-            TraceWhy::TooManySamples,
-        ),
-        (
-            header,
-            sample,
-            2_000_000,
-            b"s 1 7 0 cycles\n",
-            2_000_002,
-            TraceWhy::NoSuchCpu,
-        ),
-        (
-            header,
-            b"drain\n",
-            65_536,
-            b"exit 7\n",
-            65_538,
-            TraceWhy::TooManyRecords,
-        ),
-        (
-            header,
-            b"drain\n",
-            65_536,
-            b"scan 7 0 4 A\n",
-            65_538,
-            TraceWhy::ScanTooLate,
-        ),
-        (
-            header,
-            b"merge\n",
-            1_024,
-            b"epoch\n",
-            1_026,
-            TraceWhy::TooManyRecords,
-        ),
-        (
-            ended,
-            b"a\n",
-            4_000_000,
-            b"a\n",
-            4_000_003,
-            TraceWhy::TooManyRecords,
-        ),
-        (
-            ended,
-            b"a\n",
-            4_000_000,
-            b"l 1\n",
-            4_000_003,
-            TraceWhy::NoSuchCpu,
-        ),
-    ] {
-        let refusal = refusal_of(rt.alloc(), front, good, times, bad)?;
+    for (front, good, times, bad, line, why) in LIMITS {
+        let (line, why) = (*line, *why);
+        let refusal = refusal_of(rt.alloc(), front, good, *times, bad)?;
         assert!(rt; refusal == Some(TraceRefusal::Bad { line, why }));
     }
     Ok(())
