@@ -1,4 +1,4 @@
-// Where threads may be held, by a test.
+//! Where threads may be held, by a test.
 
 /// A place where each thread says who it is before it goes on. It tells nothing and changes
 /// nothing that a contract sees, so a test may hold threads there in any order.

@@ -1,11 +1,11 @@
-// A source and a sink in memory, for tests, which fail at the calls that are listed.
+//! A source and a sink in memory, for tests, which fail at the calls that are listed.
 ghost use Rattle.std.specs.Prelude.{◌≡◌, ◌≢◌, ℕ, ◌<◌, ◌⊎◌, ◌↔◌, List, [], length, Some, IsTrue, IsErr, IfOk, OnErr, Contains};
 ghost use Rattle.std.specs.Io.{ReadsAtMost, WritesAtMost};
 ghost use Rattle.std.specs.Io.KnownBytes.{ReadConsumes, WriteAppends};
 ghost use Rattle.outside_io.specs.Causes.{HasCause};
 
 use crate::traits::{ReadFailed, Sink, Source, WriteFailed};
-use std::alloc::Global;
+use std::alloc::{AllocError, Global};
 use std::io::{Cursor, Read};
 use std::marker::Model;
 use std::vec::Vec;
@@ -13,6 +13,7 @@ use std::vec::Vec;
 /// The calls, counted from 1, that are to fail.
 #[derive(Drop)]
 pub struct ListedFaults {
+    /// The calls, in any order.
     pub calls: Vec<u64>,
 }
 
@@ -25,6 +26,26 @@ impl Model for ListedFaults {
 }
 
 impl ListedFaults {
+    ghost use Rattle.std.specs.Prelude.{◌≡◌, [], IfOk};
+
+    /// No call fails.
+    pub fn none(alloc: Global) -> ListedFaults
+        ensures { result.calls ≡ [] }
+    {
+        ListedFaults {
+            calls: Vec::new(alloc),
+        }
+    }
+
+    /// These calls fail.
+    pub fn of(alloc: Global, calls: &[u64]) -> Result<ListedFaults, AllocError>
+        ensures { IfOk result (λ fails. fails.calls ≡ calls.now) }
+    {
+        Ok(ListedFaults {
+            calls: calls.to_vec(alloc)?,
+        })
+    }
+
     /// Whether this call is listed.
     fn fails_at(&self, call: u64) -> bool
         ensures { IsTrue result ↔ Contains self.now.calls call }

@@ -1,4 +1,4 @@
-// std's readers and writers as a source and a sink: the edge where the real bytes come and go.
+//! std's readers and writers as a source and a sink: the edge where the real bytes come and go.
 ghost use Rattle.std.specs.Prelude.{◌≡◌};
 
 use crate::traits::{ReadFailed, Sink, Source, WriteFailed};

@@ -1,13 +1,7 @@
+//! Sources and sinks through their bounds, whole and with a fault; the gate that holds nobody.
 use super::*;
-use std::alloc::Global;
 use std::io::Cursor;
 use std::test::Fail;
-
-fn listed(alloc: Global, calls: &[u64]) -> Result<ListedFaults, Fail> {
-    Ok(ListedFaults {
-        calls: calls.to_vec(alloc)?,
-    })
-}
 
 /// Three reads of a source, through its bound.
 fn three_reads<S: Source>(source: &mut S) -> [Result<usize, ReadFailed>; 3] {
@@ -24,7 +18,7 @@ fn is_shared<T: Send + Sync>(_: &T) {}
 #[test]
 fn sources_give_all_and_fail_where_listed(rt: HostRuntime) -> Result<(), Fail> {
     let alloc = rt.alloc();
-    let mut listed_source = MemSource::new(b"abc".to_vec(alloc)?, listed(alloc, &[2])?);
+    let mut listed_source = MemSource::new(b"abc".to_vec(alloc)?, ListedFaults::of(alloc, &[2])?);
     assert_eq!(rt;
         three_reads(&mut listed_source),
         [Ok(2), Err(ReadFailed), Ok(1)]
@@ -37,12 +31,13 @@ fn sources_give_all_and_fail_where_listed(rt: HostRuntime) -> Result<(), Fail> {
 #[test]
 fn all_is_put_or_a_front_of_it(rt: HostRuntime) -> Result<(), Fail> {
     let alloc = rt.alloc();
-    let mut sink = MemSink::new(alloc, listed(alloc, &[2])?);
+    let mut sink = MemSink::new(alloc, ListedFaults::of(alloc, &[2])?);
     assert_eq!(rt; put_all(&mut sink, b"ab"), Ok(()));
     assert_eq!(rt; put_all(&mut sink, b"cd"), Err(WriteFault));
     assert_eq!(rt; put_all(&mut sink, b"ef"), Ok(()));
     assert_eq!(rt; sink.bytes(), b"abef".as_slice());
     // An array takes five bytes, and nothing more.
+    assert_eq!(rt; ListedFaults::none(alloc).calls.len(), 0);
     let mut full = StdSink::new(Cursor::new([0u8; 5]));
     assert_eq!(rt; put_all(&mut full, b"abc"), Ok(()));
     assert_eq!(rt; put_all(&mut full, b"def"), Err(WriteFault));

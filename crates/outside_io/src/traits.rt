@@ -1,4 +1,4 @@
-// The traits of what is read and written, and their errors.
+//! The traits of what is read and written, and their errors.
 ghost use Rattle.std.specs.Prelude.{ℕ, ◌<◌, List, length, IfOk};
 ghost use Rattle.std.specs.declared.option.Option.{Option};
 ghost use Rattle.std.specs.Io.{ReadsAtMost, WritesAtMost};

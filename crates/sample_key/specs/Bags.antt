@@ -1,3 +1,4 @@
+-- How often entries, samples, batches and losses count each key: lists are compared by these numbers, key by key.
 use Rattle.std.specs.Prelude.{◌≡◌, ℕ, ◌+◌, ◌≤◌, ◌==◌, nat_le, nat_lt, ◌&&◌, Bool, if◌then◌else◌, List, [], ◌∷◌, Option, Some, None, slice_get}
 use Rattle.sample_key.specs.Events.{code_of}
 use Rattle.sample_key.specs.Counted.{Counted}
@@ -5,8 +6,6 @@ use Rattle.sample_key.specs.Sent.{Sent}
 use Rattle.sample_key.specs.declared.keys.Key.{Key}
 use Rattle.sample_key.specs.declared.keys.Marked.{Marked}
 use Rattle.sample_key.specs.declared.losses.Loss.{Loss}
-
--- a list of entries counts each key so often: entries and samples are compared by these numbers, key by key
 
 -- whether two keys are one: the same process, program counter and event
 abbrev pub same_key : Key → Key → Bool
@@ -29,14 +28,6 @@ weight k (e ∷ es) = counted k e + weight k es
 abbrev pub times : Key → List Marked → ℕ
 times k [] = 0
 times k (s ∷ ss) = once k s.key + times k ss
-
--- two lists of entries count each key as often
-abbrev pub SameBag : List Counted → List Counted → Type 0
-SameBag es fs = (k : Key) → weight k es ≡ weight k fs
-
--- the first list counts no key more often than the second
-abbrev pub WithinBag : List Counted → List Counted → Type 0
-WithinBag es fs = (k : Key) → weight k es ≤ weight k fs
 
 -- how often a list of batches counts a key
 abbrev pub batched : Key → List Sent → ℕ

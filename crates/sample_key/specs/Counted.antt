@@ -1,3 +1,4 @@
+-- An entry as contracts see it.
 use Rattle.std.specs.Prelude.{ℕ}
 use Rattle.sample_key.specs.declared.keys.Key.{Key}
 

@@ -1,3 +1,4 @@
+-- A note as contracts see it.
 use Rattle.std.specs.Prelude.{ℕ}
 
 -- a note as contracts see it: the header of a batch

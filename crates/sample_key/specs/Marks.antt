@@ -1,3 +1,4 @@
+-- Marked samples: how many are due, and that marks rise.
 use Rattle.std.specs.Prelude.{ℕ, ◌+◌, ◌≤◌, nat_le, if◌then◌else◌, List, [], ◌∷◌}
 use Rattle.sample_key.specs.declared.keys.Marked.{Marked}
 

@@ -1,3 +1,4 @@
+-- A batch as contracts see it.
 use Rattle.std.specs.Prelude.{List}
 use Rattle.sample_key.specs.Counted.{Counted}
 use Rattle.sample_key.specs.Headers.{Header}

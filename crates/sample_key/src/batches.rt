@@ -1,3 +1,4 @@
+//! What one cell holds at one hand: a parcel on its way, and a batch as the daemon keeps it.
 use crate::entries::Entry;
 use crate::notes::Note;
 use std::marker::Model;

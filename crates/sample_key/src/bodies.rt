@@ -1,3 +1,4 @@
+//! What a buffer and the table have in common: a list of entries that is copied out and cleared.
 ghost use Rattle.std.specs.Prelude.{◌≡◌, ◌+◌, ◌≤◌, ◌++◌, List, [], length, vec_len, vec_capacity, IsOk, OnOk, OnErr};
 ghost use Rattle.sample_key.specs.Counted.{Counted};
 

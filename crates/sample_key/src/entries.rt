@@ -1,3 +1,4 @@
+//! One way of a bucket or one place of a buffer: a key and how many samples it stands for.
 use crate::keys::Key;
 use std::marker::Model;
 
@@ -14,12 +15,13 @@ pub struct Entry {
 impl Model for Entry {
     ghost use Rattle.std.specs.Prelude.{◌≤◌};
     ghost use Rattle.sample_key.specs.Counted.{Counted};
+    ghost use Rattle.sample_key.specs.declared.limits.TheConstants.{MOST_COUNT};
 
     ghost Value = { Counted };
 
     ghost view = { λ e. record { key = e.key; count = e.count } };
 
-    ghost invariant = { λ e. (1 ≤ e.count) × (e.count ≤ 65535) };
+    ghost invariant = { λ e. (1 ≤ e.count) × (e.count ≤ MOST_COUNT) };
 
     ghost inverse = { λ c. record { key = c.key; count = c.count } };
 }

@@ -1,3 +1,4 @@
+//! The events that a performance counter counts, with their codes and names.
 ghost use Rattle.std.specs.Prelude.{◌≡◌, ◌≢◌, ◌<◌, ◌↔◌, IsNone, IfSome};
 ghost use Rattle.sample_key.specs.declared.events.Event.{Event};
 ghost use Rattle.sample_key.specs.Events.{code_of, name_of, event_of_code, event_named};
@@ -7,14 +8,19 @@ ghost use Rattle.sample_key.specs.Events.{code_of, name_of, event_of_code, event
 /// project's own.
 #[derive(Clone, Copy, Debug, PartialEq, Eq, PartialOrd, Ord)]
 pub enum Event {
+    /// Processor cycles.
     Cycles,
+    /// Misses of the instruction cache.
     Imiss,
+    /// Misses of the data cache.
     Dmiss,
+    /// Branches that were predicted wrongly.
     Branchmp,
 }
 
 impl Event {
     /// The code of the event, 0 to 3 in the order of the variants.
+    #[inline]
     pub fn code(self) -> u8
         ensures { result ≡ code_of self }
     {

@@ -9,6 +9,7 @@ mod bodies;
 mod entries;
 mod events;
 mod keys;
+mod limits;
 mod losses;
 mod notes;
 
@@ -17,6 +18,7 @@ pub use bodies::Body;
 pub use entries::Entry;
 pub use events::Event;
 pub use keys::{Key, Marked};
+pub use limits::{LAST_CELL, LAST_CPU, MOST_COUNT, MOST_SAMPLES};
 pub use losses::{Loss, Pace};
 pub use notes::Note;
 

@@ -1,3 +1,4 @@
+//! Samples that were lost, and the pace at which that may happen.
 use crate::events::Event;
 
 /// A sample that was lost: it needed an overflow buffer, and both were with the daemon.

@@ -1,3 +1,4 @@
+//! The header that travels with every batch.
 use std::marker::Model;
 
 /// The header of a batch: whose it is, and how far the driver had come when it handed it over.
@@ -22,12 +23,13 @@ pub struct Note {
 impl Model for Note {
     ghost use Rattle.std.specs.Prelude.{◌≤◌};
     ghost use Rattle.sample_key.specs.Headers.{Header};
+    ghost use Rattle.sample_key.specs.declared.limits.TheConstants.{LAST_CELL, LAST_CPU, MOST_SAMPLES};
 
     ghost Value = { Header };
 
     ghost view = { λ n. record { cpu = n.cpu; cell = n.cell; number = n.number; upto = n.upto; answers = n.answers; sent0 = n.sent0; sent1 = n.sent1 } };
 
-    ghost invariant = { λ n. (n.cpu ≤ 15) × (n.cell ≤ 2) × (1 ≤ n.number) × (n.upto ≤ 2000000) };
+    ghost invariant = { λ n. (n.cpu ≤ LAST_CPU) × (n.cell ≤ LAST_CELL) × (1 ≤ n.number) × (n.upto ≤ MOST_SAMPLES) };
 
     ghost inverse = { λ h. record { cpu = h.cpu; cell = h.cell; number = h.number; upto = h.upto; answers = h.answers; sent0 = h.sent0; sent1 = h.sent1 } };
 }

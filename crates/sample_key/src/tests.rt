@@ -1,3 +1,4 @@
+//! Codes and names both ways, keys, a body through its bound, and that the types may go to threads.
 ghost use Rattle.std.specs.Prelude.{◌≡◌, ◌%◌};
 
 use super::{Batch, Body, Entry, Event, Key, Loss, Marked, Note, Pace, Parcel};
@@ -29,19 +30,19 @@ fn other_codes_and_names_are_none(rt: HostRuntime) {
 
 #[test]
 fn keys_compare_by_all_fields(rt: HostRuntime) {
+    assert_eq!(rt; size_of::<Key>(), 16);
     let key = Key {
-        pid: 7,
         pc: 0x1000,
+        pid: 7,
         event: Event::Cycles,
     };
     let other = Key {
-        pid: 7,
         pc: 0x1000,
+        pid: 7,
         event: Event::Imiss,
     };
     assert_eq!(rt; key == key, true);
     assert_eq!(rt; key == other, false);
-    assert_eq!(rt; key < other, true);
     let sample = Marked { key, mark: 3 };
     assert_eq!(rt; sample.key == key, true);
     assert_eq!(rt; sample.mark, 3);
@@ -55,8 +56,8 @@ fn key_at(pc: u64) -> Key
     requires { pc % 4 ≡ 0 }
 {
     Key {
-        pid: 7,
         pc,
+        pid: 7,
         event: Event::Cycles,
     }
 }

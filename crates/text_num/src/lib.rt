@@ -7,7 +7,7 @@
 mod names;
 mod numbers;
 
-pub use names::{Name, is_name};
+pub use names::{MOST_NAME_BYTES, Name, is_name};
 pub use numbers::{
     is_dec, is_hex, one_spelling, put_dec, put_hex, put_hundredths, read_dec, read_hex,
 };

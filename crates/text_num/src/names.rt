@@ -1,3 +1,4 @@
+//! Names of images, procedures and files: a `Name` is its bytes, 1 to 255 of them, each visible.
 ghost use Rattle.std.specs.Prelude.{◌≡◌, ◌==◌};
 ghost use Rattle.std.specs.List.{list_all};
 ghost use Rattle.std.proofs.Common.{rules};
@@ -10,6 +11,9 @@ ghost use Rattle.text_num.specs.Names.{is_name, is_visible};
 use std::alloc::{AllocError, Global};
 use std::cmp::Ordering;
 use std::marker::Model;
+
+/// The length of the longest name, in bytes.
+pub const MOST_NAME_BYTES: usize = 255;
 
 /// A name of 1 to 255 bytes with values 33 to 126, as of an image, a procedure or a file.
 #[derive(Drop)]
@@ -103,7 +107,7 @@ impl PartialEq for Name {
 pub fn is_name(bytes: &[u8]) -> bool
     ensures { result ≡ is_name bytes.now }
 {
-    1 <= bytes.len() && bytes.len() <= 255 && are_visible(bytes)
+    1 <= bytes.len() && bytes.len() <= MOST_NAME_BYTES && are_visible(bytes)
 }
 
 fn are_visible(bytes: &[u8]) -> bool
@@ -117,11 +121,17 @@ mod tests {
     use super::*;
     use std::test::Fail;
 
+    fn needs_send<T: Send>(_value: &T) {}
+
+    fn needs_sync<T: Sync>(_value: &T) {}
+
     fn is_some_name(bytes: &[u8], alloc: Global) -> Result<bool, AllocError> {
         let Some(name) = Name::of_bytes(alloc, bytes)? else {
             return Ok(false);
         };
         let copy = name.copy(alloc)?;
+        needs_send(&copy);
+        needs_sync(&copy);
         Ok(copy.bytes() == bytes)
     }
 

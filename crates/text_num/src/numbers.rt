@@ -1,3 +1,4 @@
+//! Canonical numbers: read exactly where a text spells one, and appended in their one spelling.
 ghost use Rattle.std.specs.Prelude.{◌≡◌, ℕ, ◌+◌, ◌*◌, ◌^◌, ◌<◌, ◌≤◌, ◌++◌, nat_lt, ◌&&◌, if◌then◌else◌, is_ok, false};
 ghost use Rattle.std.specs.List.{list_all};
 ghost use Rattle.std.specs.Fmt.{decimal, digits};
