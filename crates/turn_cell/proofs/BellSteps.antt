@@ -10,7 +10,7 @@ use lib.ListN.{get_elem?}
 use Rattle.atomic_table.specs.Table.{Me, keeps, opening, Allows, Splits, Joins}
 use Rattle.atomic_table.proofs.Lists.{at_set, at_snoc, set_again}
 use Rattle.turn_cell.specs.declared.bell_view.BellView.{BellView}
-use Rattle.turn_cell.specs.Doorbell.{last_rung, IsRungOrZero, ringer, hearer, with_noted, after_ring, after_hear, FitsBell, RisesOnly, rang, heard, met}
+use Rattle.turn_cell.specs.Doorbell.{last_rung, IsRungOrZero, ringer, hearer, with_noted, after_ring, after_hear, after_meet, FitsBell, RisesOnly, rang, heard, met}
 
 last_rung-push : (rungs : List ℕ) (value : ℕ) → last_rung (rungs ++ value ∷ []) ≡ value
 last_rung-push rungs value =
@@ -83,12 +83,14 @@ module _ {S : Type 0} where
         (refl, refl, omega (arith, found, mine.0), omega (arith, found, r.bound)),
       )
 
-  pub meets : (slots id : ℕ) (m : Me S BellView) → m.0.rings ≡ true → Allows RisesOnly slots id m 0 (λ n. n) (λ _. met m)
+  pub meets : (slots id : ℕ) (m : Me S BellView) → m.0.rings ≡ true → Allows RisesOnly slots id m 0 (λ n. n) (met m)
   meets slots id m rings s r _ at _ =
+      let n : ℕ = get_or s.words 0 0 in
+      let found : n ≡ last_rung r.rungs = ap (λ (ws : List ℕ). get_or ws 0 0) r.words in
       let mine = r.fits id m.0 at in
       let same : r.rungs ≡ m.0.rungs = sym (mine.2 rings).1 in
-      let told = subst (λ (rungs : List ℕ). (m.0.heard ≤ last_rung rungs) × IsRungOrZero rungs m.0.heard) same (mine.0, mine.1) in (
-        m.0,
+      let told = subst (λ (rungs : List ℕ). (n ≡ last_rung rungs) × (m.0.heard ≤ last_rung rungs) × IsRungOrZero rungs m.0.heard) same (found, mine.0, mine.1) in (
+        after_meet m.0 n,
         keeps,
         tt,
         record {
@@ -97,9 +99,9 @@ module _ {S : Type 0} where
           words = ap (λ (ws : List ℕ). set ws 0 (get_or ws 0 0)) r.words;
           rising = r.rising;
           bound = r.bound;
-          fits = fits_set r.rungs r.bearer s.views id m.0 (λ j u _ e. r.fits j u e) mine;
+          fits = fits_set r.rungs r.bearer s.views id (after_meet m.0 n) (λ j u _ e. r.fits j u e) mine;
         },
-        (refl, told.0, told.1),
+        (refl, refl, told.0, told.1, told.2),
       )
 
   pub rings : (slots id : ℕ) (m : Me S BellView) (value : ℕ) → m.0.rings ≡ true → last_rung m.0.rungs ≤ value → value ≤ 2 ^ 32

@@ -4,16 +4,16 @@ use mathlib.Core.Option.{some, none, some-injective, some-ne-none}
 use lib.ListN.{get_elem?}
 use Rattle.atomic_table.specs.Table.{State}
 use Rattle.turn_cell.specs.declared.passing.Parcel.{Parcel}
-use Rattle.turn_cell.specs.declared.slot.Slot.{Slot}
-use Rattle.turn_cell.specs.declared.slot.Slot.TheVariants.{Resting, Sent}
-use Rattle.turn_cell.specs.declared.slot.Role.{Role}
-use Rattle.turn_cell.specs.declared.slot.Role.TheVariants.{Daemon, SetDown, Joined, Spent}
-use Rattle.turn_cell.specs.declared.slot.View.{View}
+use Rattle.turn_cell.specs.declared.cell_view.InSlot.{InSlot}
+use Rattle.turn_cell.specs.declared.cell_view.InSlot.TheVariants.{Resting, Sent}
+use Rattle.turn_cell.specs.declared.cell_view.Role.{Role}
+use Rattle.turn_cell.specs.declared.cell_view.Role.TheVariants.{Daemon, SetDown, Joined, Spent}
+use Rattle.turn_cell.specs.declared.cell_view.View.{View}
 use Rattle.turn_cell.specs.Parcels.{last_of, IsEven, IsOdd}
-use Rattle.turn_cell.specs.Handoff.{Place, resting, with_lane, sent, with_daemon, with_closer, homes_of, is_with_lane, is_with_daemon, IsInReach, IsDaemonRole, Seats, whole, apart, joined, views_of, WholeKnows, Know, Agree, TakesTurns, IsKnown, IsSoundCell}
+use Rattle.turn_cell.specs.Handoff.{Whereabouts, resting, with_lane, sent, with_daemon, with_closer, homes_of, is_with_lane, is_with_daemon, IsInReach, IsDaemonRole, Seats, whole, apart, joined, views_of, WholeKnows, Know, Agree, TakesTurns, IsKnown, IsSoundCell}
 use Rattle.turn_cell.proofs.CellSteps.{handoff_of}
 
-daemon_role_of : {V : Type 0} (place : Place V) (role : Role) → IsDaemonRole place role → (role ≡ Daemon) ⊎ (role ≡ SetDown)
+daemon_role_of : {V : Type 0} (place : Whereabouts V) (role : Role) → IsDaemonRole place role → (role ≡ Daemon) ⊎ (role ≡ SetDown)
 daemon_role_of (resting x) role is = is
 daemon_role_of with_lane role is = is
 daemon_role_of (sent p) role is = is
@@ -22,7 +22,7 @@ daemon_role_of with_closer role is = inr is
 
 module _ {V : Type 0} where
   -- the value is in the slot or with an end
-  one_place_of : (place : Place V) (homes : List (mathlib.Core.Option.Option (Slot V))) → homes ≡ homes_of place
+  one_place_of : (place : Whereabouts V) (homes : List (mathlib.Core.Option.Option (InSlot V))) → homes ≡ homes_of place
       → (((x : V) × (homes ≡ some (Resting x) ∷ [])) ⊎ ((p : Parcel V) × (homes ≡ some (Sent p) ∷ []))) ⊎ ((is_with_lane place ≡ true) ⊎ (is_with_daemon place ≡ true))
   one_place_of (resting x) homes is = inl (inl (x, is))
   one_place_of with_lane homes is = inr (inl refl)
@@ -31,7 +31,7 @@ module _ {V : Type 0} where
   one_place_of with_closer homes is = inr (inr refl)
 
 module _ {K V : Type 0} (keeps : K → Parcel V → Type 0) (returns : K → Option (Parcel V) → V → Type 0) where
-  at_home_of : (k : K) (handed taken : List (Parcel V)) (backs : ℕ) (place : Place V) (x : V) → Agree keeps returns k handed taken backs place → homes_of place ≡ some (Resting x) ∷ []
+  at_home_of : (k : K) (handed taken : List (Parcel V)) (backs : ℕ) (place : Whereabouts V) (x : V) → Agree keeps returns k handed taken backs place → homes_of place ≡ some (Resting x) ∷ []
       → IsEven (length handed + backs) × (is_with_lane place ≡ false) × returns k (last_of handed) x
   at_home_of k handed taken backs (resting y) x agree e = let same : y ≡ x = cc in (omega (arith, agree.0), refl, subst (λ (z : V). returns k (last_of handed) z) same agree.2)
   at_home_of k handed taken backs with_lane x agree e = absurd (cc)
@@ -39,7 +39,7 @@ module _ {K V : Type 0} (keeps : K → Parcel V → Type 0) (returns : K → Opt
   at_home_of k handed taken backs with_daemon x agree e = absurd (cc)
   at_home_of k handed taken backs with_closer x agree e = absurd (cc)
 
-  on_its_way_of : (k : K) (handed taken : List (Parcel V)) (backs : ℕ) (place : Place V) (p : Parcel V) → Agree keeps returns k handed taken backs place → homes_of place ≡ some (Sent p) ∷ []
+  on_its_way_of : (k : K) (handed taken : List (Parcel V)) (backs : ℕ) (place : Whereabouts V) (p : Parcel V) → Agree keeps returns k handed taken backs place → homes_of place ≡ some (Sent p) ∷ []
       → IsOdd (length handed + backs) × (is_with_daemon place ≡ false) × (handed ≡ taken ++ p ∷ []) × keeps k p
   on_its_way_of k handed taken backs (resting y) p agree e = absurd (cc)
   on_its_way_of k handed taken backs with_lane p agree e = absurd (cc)
@@ -48,7 +48,7 @@ module _ {K V : Type 0} (keeps : K → Parcel V → Type 0) (returns : K → Opt
   on_its_way_of k handed taken backs with_daemon p agree e = absurd (cc)
   on_its_way_of k handed taken backs with_closer p agree e = absurd (cc)
 
-  known_of : (k : K) (handed taken : List (Parcel V)) (backs : ℕ) (place : Place V) (seats : Seats K V) (seat : ℕ) (v : View K V) → Know k handed taken backs place seats → get_elem? (views_of seats) seat ≡ some v
+  known_of : (k : K) (handed taken : List (Parcel V)) (backs : ℕ) (place : Whereabouts V) (seats : Seats K V) (seat : ℕ) (v : View K V) → Know k handed taken backs place seats → get_elem? (views_of seats) seat ≡ some v
       → IsKnown keeps returns k handed taken backs (is_with_lane place) (is_with_daemon place) v v.role
   known_of k handed taken backs place seats seat v know e = found seats seat know e
     where
@@ -78,20 +78,20 @@ module _ {K V : Type 0} (keeps : K → Parcel V → Type 0) (returns : K → Opt
           (subst (λ (role : Role). IsKnown keeps returns k handed taken backs (is_with_lane place) (is_with_daemon place) w role) (sym know.0) tt)
       found (joined u w) (suc (suc i)) know e = absurd (some-ne-none v (sym e))
 
-  pub sound : (k : K) (s : State (Slot V) (View K V)) → TakesTurns keeps returns k s → IsSoundCell keeps returns k s
+  pub sound : (k : K) (s : State (InSlot V) (View K V)) → TakesTurns keeps returns k s → IsSoundCell keeps returns k s
   sound k s r =
-      let homes = ap (λ (x : State (Slot V) (View K V)). x.homes) r.is in record {
+      let homes = ap (λ (x : State (InSlot V) (View K V)). x.homes) r.is in record {
         handed = r.handed;
         taken = r.taken;
         backs = r.backs;
         word = length r.handed + r.backs;
         lane_holds = is_with_lane r.place;
         daemon_holds = is_with_daemon r.place;
-        words = ap (λ (x : State (Slot V) (View K V)). x.words) r.is;
+        words = ap (λ (x : State (InSlot V) (View K V)). x.words) r.is;
         handoff = handoff_of keeps returns k r.handed r.taken r.backs r.place r.agree;
         bound = r.bound;
         at_home = λ x e. at_home_of k r.handed r.taken r.backs r.place x r.agree (sym homes ∙ e);
         on_its_way = λ p e. on_its_way_of k r.handed r.taken r.backs r.place p r.agree (sym homes ∙ e);
         one_place = one_place_of r.place s.homes homes;
-        known = λ seat v e. known_of k r.handed r.taken r.backs r.place r.seats seat v r.know (sym (ap (λ (x : State (Slot V) (View K V)). get_elem? x.views seat) r.is) ∙ e);
+        known = λ seat v e. known_of k r.handed r.taken r.backs r.place r.seats seat v r.know (sym (ap (λ (x : State (InSlot V) (View K V)). get_elem? x.views seat) r.is) ∙ e);
       }

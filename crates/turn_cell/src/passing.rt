@@ -1,4 +1,4 @@
-// What passes through a cell, and what its two ends answer.
+//! What passes through a cell, and what its two ends answer.
 ghost use Rattle.std.specs.Prelude.{ℕ};
 
 /// A value while it is handed over.
@@ -8,6 +8,7 @@ pub struct Parcel<V> {
     pub number: u64,
     /// A mark of the sender's, which the cell passes on.
     pub upto: u64,
+    /// What is handed over.
     pub value: V,
 }
 
@@ -20,7 +21,8 @@ pub enum Look<T> {
     Out(u64),
 }
 
-/// The answer of a poll of the cell by the end that takes. A layer above may have a parcel type of its own.
+/// The answer of a poll of the cell by the end that takes. A layer above may have a parcel type of
+/// its own.
 #[derive(Drop)]
 pub enum PollOf<P> {
     /// A parcel was there, and this end holds its value now.
@@ -29,6 +31,7 @@ pub enum PollOf<P> {
     Home(u64),
 }
 
+/// The answer of a poll of a turn cell.
 pub type Poll<V> = PollOf<Parcel<V>>;
 
 /// A value that a cell may hand over.

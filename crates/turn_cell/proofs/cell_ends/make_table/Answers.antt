@@ -1,6 +1,6 @@
 use Rattle.std.proofs.Common.{ap, sym, subst, ◌∙◌, ◌++◌, ◌∷◌, []}
 use Rattle.atomic_table.specs.Table.{opening}
-use Rattle.turn_cell.specs.declared.slot.Slot.TheVariants.{Resting}
+use Rattle.turn_cell.specs.declared.cell_view.InSlot.TheVariants.{Resting}
 use Rattle.turn_cell.specs.Handoff.{TakesTurns, first_view}
 use Rattle.turn_cell.proofs.CellSteps.{opens}
 use Rattle.turn_cell.proofs.cell_ends.make_table.Goals as goal

@@ -1,19 +1,23 @@
-// A value with a key, and a generic caller.
+//! A value with a key, and a generic caller.
 ghost use Rattle.std.specs.Prelude.{◌≡◌, ◌^◌, ◌<◌, true, false, ◌∷◌, ◌++◌, [], length, MatchOption};
 
-use crate::{DaemonEnd, Kept, LaneEnd, Parcel, PollOf};
+use turn_cell::{DaemonEnd, Kept, LaneEnd, Parcel, PollOf};
 
 /// A crate of a size that is loaded and emptied, and remembers the number under which it was last sent.
 #[derive(Drop)]
 pub struct Crate {
+    /// The size of the crates of its cell.
     pub size: u64,
+    /// How much is in it, at most its size.
     pub load: u64,
+    /// The number of the parcel that it was in last, 0 before the first.
     pub sent: u64,
 }
 
 /// The size of the crates of one cell.
 #[derive(Drop)]
 pub struct Size {
+    /// How much a crate takes.
     pub size: u64,
 }
 
@@ -22,9 +26,11 @@ impl Kept for Crate {
 
     type Key = Size;
 
-    ghost keeps = { λ k p. (p.value.size ≡ k.size) × (p.value.load ≤ k.size) × (p.value.sent ≡ p.number) };
+    ghost keeps = { λ k p. (p.value.size ≡ k.size) × (p.value.load ≤ k.size)
+        × (p.value.sent ≡ p.number) };
 
-    ghost returns = { λ k last x. (x.size ≡ k.size) × (x.load ≡ 0) × MatchOption last (x.sent ≡ 0) (λ p. x.sent ≡ p.number) };
+    ghost returns = { λ k last x. (x.size ≡ k.size) × (x.load ≡ 0)
+        × MatchOption last (x.sent ≡ 0) (λ p. x.sent ≡ p.number) };
 }
 
 /// An empty crate that was never sent.
@@ -48,8 +54,13 @@ pub fn pass<V: Kept>(
     requires daemon { daemon.old.holds ≡ false }
     requires keeps { V.keeps lane.old.key parcel }
     ensures handed { (lane.new.handed ≡ lane.old.handed ++ parcel ∷ []) × (lane.new.holds ≡ false) }
-    ensures taken { MatchOption result ((daemon.new.taken ≡ daemon.old.taken) × (daemon.new.holds ≡ false)) (λ p. (daemon.new.taken ≡ daemon.old.taken ++ p ∷ []) × (daemon.new.holds ≡ true) × V.keeps daemon.old.key p) }
-    ensures stays { (lane.new.cell ≡ lane.old.cell) × (lane.new.key ≡ lane.old.key) × (daemon.new.cell ≡ daemon.old.cell) × (daemon.new.key ≡ daemon.old.key) }
+    ensures taken { MatchOption result
+        ((daemon.new.taken ≡ daemon.old.taken) × (daemon.new.holds ≡ false))
+        (λ p. (daemon.new.taken ≡ daemon.old.taken ++ p ∷ []) × (daemon.new.holds ≡ true)
+        × V.keeps daemon.old.key p) }
+    ensures lane_stays { (lane.new.cell ≡ lane.old.cell) × (lane.new.key ≡ lane.old.key) }
+    ensures daemon_stays { (daemon.new.cell ≡ daemon.old.cell)
+        × (daemon.new.key ≡ daemon.old.key) }
 {
     lane.hand(parcel);
     match daemon.poll() {

@@ -1,12 +1,41 @@
-// The table of calls on one thread, with the answers that each row must give.
+//! The table of calls on one thread, with the answers that each row must give.
 ghost use Rattle.std.specs.Prelude.{◌≡◌, false, [], IfOk};
 
 use super::crates::{Crate, Size, new_crate, pass};
-use crate::{Bell, DaemonEnd, LaneEnd, Look, Parcel, PollOf, TurnCell, close};
 use std::alloc::{AllocError, Global};
 use std::process::Abort;
 use std::test::Fail;
+use turn_cell::{Bell, DaemonEnd, LaneEnd, Look, Parcel, PollOf, TurnCell, close};
 
+#[test]
+fn calls_answer_as_in_the_table(rt: HostRuntime) -> Result<(), Fail> {
+    let alloc = rt.alloc();
+    assert_eq!(rt; poll_first(&rt, alloc)?, [Answer::Home(0)]);
+    assert_eq!(rt;
+        look_after_hand(&rt, alloc)?,
+        [Answer::Back, Answer::Out(1)]
+    );
+    let home = Answer::Closed {
+        has_value: false,
+        word: 2,
+    };
+    assert_eq!(rt;
+        there_and_back(&rt, alloc)?,
+        [Answer::Back, Answer::Parcel, Answer::Back, home]
+    );
+    let on_its_way = Answer::Closed {
+        has_value: true,
+        word: 1,
+    };
+    assert_eq!(rt; close_after_hand(&rt, alloc)?, [on_its_way]);
+    assert_eq!(rt;
+        rings(alloc)?,
+        [Answer::Heard(0), Answer::Heard(3), Answer::Heard(4)]
+    );
+    Ok(())
+}
+
+// What a call answered.
 #[derive(Clone, Copy, Debug, PartialEq, Eq)]
 enum Answer {
     Back,
@@ -15,14 +44,6 @@ enum Answer {
     Home(u64),
     Closed { has_value: bool, word: u64 },
     Heard(u64),
-}
-
-fn new_cell(alloc: Global) -> Result<(LaneEnd<Crate>, DaemonEnd<Crate>), AllocError>
-    ensures cell { IfOk result (λ ends. ends.0.cell ≡ ends.1.cell) }
-    ensures lane { IfOk result (λ ends. (ends.0.key.size ≡ 4) × (ends.0.handed ≡ []) × (ends.0.holds ≡ false)) }
-    ensures daemon { IfOk result (λ ends. (ends.1.key.size ≡ 4) × (ends.1.taken ≡ []) × (ends.1.holds ≡ false)) }
-{
-    TurnCell::new(alloc, Size { size: 4 }, new_crate(4))
 }
 
 // new, poll
@@ -120,30 +141,12 @@ fn rings(alloc: Global) -> Result<[Answer; 3], AllocError> {
     ])
 }
 
-#[test]
-fn calls_answer_as_in_the_table(rt: HostRuntime) -> Result<(), Fail> {
-    let alloc = rt.alloc();
-    assert_eq!(rt; poll_first(&rt, alloc)?, [Answer::Home(0)]);
-    assert_eq!(rt;
-        look_after_hand(&rt, alloc)?,
-        [Answer::Back, Answer::Out(1)]
-    );
-    let home = Answer::Closed {
-        has_value: false,
-        word: 2,
-    };
-    assert_eq!(rt;
-        there_and_back(&rt, alloc)?,
-        [Answer::Back, Answer::Parcel, Answer::Back, home]
-    );
-    let on_its_way = Answer::Closed {
-        has_value: true,
-        word: 1,
-    };
-    assert_eq!(rt; close_after_hand(&rt, alloc)?, [on_its_way]);
-    assert_eq!(rt;
-        rings(alloc)?,
-        [Answer::Heard(0), Answer::Heard(3), Answer::Heard(4)]
-    );
-    Ok(())
+// A cell whose crates have the size 4.
+fn new_cell(alloc: Global) -> Result<(LaneEnd<Crate>, DaemonEnd<Crate>), AllocError>
+    ensures cell { IfOk result (λ ends. ends.0.cell ≡ ends.1.cell) }
+    ensures key { IfOk result (λ ends. (ends.0.key.size ≡ 4) × (ends.1.key.size ≡ 4)) }
+    ensures lane { IfOk result (λ ends. (ends.0.handed ≡ []) × (ends.0.holds ≡ false)) }
+    ensures daemon { IfOk result (λ ends. (ends.1.taken ≡ []) × (ends.1.holds ≡ false)) }
+{
+    TurnCell::new(alloc, Size { size: 4 }, new_crate(4))
 }

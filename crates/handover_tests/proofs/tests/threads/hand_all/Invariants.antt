@@ -1,5 +1,5 @@
 use Rattle.std.proofs.Common.{◌≡◌, ◌≤◌, length, false}
-use Rattle.turn_cell.proofs.tests.threads.hand_all.Given as goal
+use Rattle.handover_tests.proofs.tests.threads.hand_all.Given as goal
 
 abbrev pub invariant-tries : goal.invariant-tries
 invariant-tries l = record {

@@ -1,4 +1,0 @@
-mod calls;
-mod carried;
-mod crates;
-mod threads;
