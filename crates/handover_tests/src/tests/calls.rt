@@ -1,11 +1,11 @@
 //! The table of calls on one thread, with the answers that each row must give.
-ghost use Rattle.std.specs.Prelude.{◌≡◌, false, [], IfOk};
+ghost use Rattle.std.specs.Prelude.{◌≡◌, true, false, [], IfOk};
 
 use super::crates::{Crate, Size, new_crate, pass};
 use std::alloc::{AllocError, Global};
 use std::process::Abort;
 use std::test::Fail;
-use turn_cell::{Bell, DaemonEnd, LaneEnd, Look, Parcel, PollOf, TurnCell, close};
+use turn_cell::{Bell, Closed, DaemonEnd, LaneEnd, Look, Parcel, PollOf, TurnCell, close};
 
 #[test]
 fn calls_answer_as_in_the_table(rt: HostRuntime) -> Result<(), Fail> {
@@ -28,6 +28,11 @@ fn calls_answer_as_in_the_table(rt: HostRuntime) -> Result<(), Fail> {
         word: 1,
     };
     assert_eq!(rt; close_after_hand(&rt, alloc)?, [on_its_way]);
+    let held = Answer::Closed {
+        has_value: false,
+        word: 1,
+    };
+    assert_eq!(rt; close_after_poll(&rt, alloc)?, [held]);
     assert_eq!(rt;
         rings(alloc)?,
         [Answer::Heard(0), Answer::Heard(3), Answer::Heard(4)]
@@ -122,6 +127,36 @@ fn close_after_hand(rt: &impl Abort, alloc: Global) -> Result<[Answer; 1], Alloc
         has_value: closed.value.is_some(),
         word: closed.word,
     }])
+}
+
+// new, look, hand, poll, close
+fn close_after_poll(rt: &impl Abort, alloc: Global) -> Result<[Answer; 1], AllocError> {
+    let (mut lane, mut daemon) = new_cell(alloc)?;
+    let Look::Back(mut value) = lane.look() else {
+        panic!(rt; "the value is out");
+    };
+    value.sent = 1;
+    let parcel = Parcel {
+        number: 1,
+        upto: 0,
+        value,
+    };
+    let Some(_parcel) = pass(&mut lane, &mut daemon, parcel) else {
+        panic!(rt; "no parcel");
+    };
+    let closed = close_held(lane, daemon);
+    Ok([Answer::Closed {
+        has_value: closed.value.is_some(),
+        word: closed.word,
+    }])
+}
+
+// A daemon's end that holds the value has taken all that was handed.
+fn close_held(lane: LaneEnd<Crate>, daemon: DaemonEnd<Crate>) -> Closed<Crate>
+    requires { (lane.cell ≡ daemon.cell) × (daemon.holds ≡ true) }
+    ensures { daemon.taken ≡ lane.handed }
+{
+    close(lane, daemon)
 }
 
 // hear, ring 3, hear, note, meet, ring 4, hear

@@ -43,7 +43,8 @@ fn an_end_and_a_note_go_through_another_cell(rt: HostRuntime) -> Result<(), Fail
     Ok(())
 }
 
-// Meets the note and hands a full crate over by the end that came. False where one of them is missing.
+// Meets the note and hands a full crate over by the end that came. False where one of them is
+// missing.
 fn carry_out(errand: Errand, ring: &mut RingEnd) -> bool
     requires lane { IfSome errand.lane (λ lane. (lane.holds ≡ false) × (lane.handed ≡ [])) }
     requires heard { IfSome errand.heard (λ note. note.bell ≡ ring.old.bell) }

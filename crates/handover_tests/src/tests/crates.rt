@@ -3,7 +3,8 @@ ghost use Rattle.std.specs.Prelude.{◌≡◌, ◌^◌, ◌<◌, true, false, �
 
 use turn_cell::{DaemonEnd, Kept, LaneEnd, Parcel, PollOf};
 
-/// A crate of a size that is loaded and emptied, and remembers the number under which it was last sent.
+/// A crate of a size that is loaded and emptied, and remembers the number under which it was last
+/// sent.
 #[derive(Drop)]
 pub struct Crate {
     /// The size of the crates of its cell.
