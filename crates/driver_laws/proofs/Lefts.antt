@@ -8,80 +8,87 @@ use Rattle.sample_key.specs.declared.losses.Pace.{Pace}
 use Rattle.sample_key.specs.declared.losses.Pace.TheVariants.{Free, Exact}
 use Rattle.driver_model.specs.Table.{Table}
 use Rattle.driver_model.specs.Sides.{Side, is_even, slot_looked, slot_handed, room_after, side_hear, side_look_buffer}
-use Rattle.driver_model.specs.Driver.{Two, Words, ends_with, regain, hand_active, answer_with, other, word_at, look_other, find_buffer, push, write, write_sample, take_sample, next_sample, after_regain, turn_of, Setup, Driver, World, Turned, take_next, to_write, needs_write, activate, pair_handed, buffer_header, hand_buffer, hand_table, answers_now}
+use Rattle.driver_model.specs.Driver.{Two, Words, ends_with, regain, hand_active, answer_with, other, word_at, look_other, find_buffer, push, write, write_sample, take_sample, next_sample, after_regain, turn_of, Setup, Driver, World, Turned, take_next, entry_to_write, needs_write, activate, pair_handed, buffer_header, hand_buffer, hand_table, answers_now}
 use Rattle.driver_model.specs.declared.answers.Turn.TheVariants.{Took, Held, Done}
-use Rattle.driver_laws.specs.Turns.{Leaves, HearsOnce}
+use Rattle.driver_laws.specs.Turns.{HearsOnce}
 
--- what the calls after the bell leave
+-- what the calls of a turn leave after the bell was heard and the table looked for
+pub record LeavesBell (v w : Side) : Type 0 where
+  pub hears : w.hears ≡ v.hears
+  pub heard : w.heard ≡ v.heard
+  pub buckets : w.buckets ≡ v.buckets
+  pub buffer : w.buffer ≡ v.buffer
+  pub read : w.third.read ≡ v.third.read
+  pub tries : w.third.tries ≡ v.third.tries
 
-same_left : (v : Side) → Leaves v v
+same_left : (v : Side) → LeavesBell v v
 same_left v = record { hears = refl; heard = refl; buckets = refl; buffer = refl; read = refl; tries = refl }
 
-two_left : (v w x : Side) → Leaves v w → Leaves w x → Leaves v x
+two_left : (v w x : Side) → LeavesBell v w → LeavesBell w x → LeavesBell v x
 two_left v w x a b = record { hears = b.hears ∙ a.hears; heard = b.heard ∙ a.heard; buckets = b.buckets ∙ a.buckets; buffer = b.buffer ∙ a.buffer; read = b.read ∙ a.read; tries = b.tries ∙ a.tries }
 
-hand_left : (u : Setup) (d : Driver) (v : Side) (b : ℕ) (es : List Counted) → Leaves v (hand_buffer u d v b es).side
+hand_left : (u : Setup) (d : Driver) (v : Side) (b : ℕ) (es : List Counted) → LeavesBell v (hand_buffer u d v b es).side
 hand_left u d v b es =
     let x : Sent = record { note = buffer_header u d.at b (pair_handed d.pair b); entries = es } in
     cond_both (eqb b 0) (record v { steps = v.steps + 1; first = slot_handed v.first x; room = room_after v.room x }) (record v { steps = v.steps + 1; second = slot_handed v.second x; room = room_after v.room x })
-    (Leaves v) (λ e. record { hears = refl; heard = refl; buckets = refl; buffer = refl; read = refl; tries = refl }) (λ e. record { hears = refl; heard = refl; buckets = refl; buffer = refl; read = refl; tries = refl })
+    (LeavesBell v) (λ e. record { hears = refl; heard = refl; buckets = refl; buffer = refl; read = refl; tries = refl }) (λ e. record { hears = refl; heard = refl; buckets = refl; buffer = refl; read = refl; tries = refl })
 
-look_left : (v : Side) (b w : ℕ) → Leaves v (side_look_buffer v b w)
+look_left : (v : Side) (b w : ℕ) → LeavesBell v (side_look_buffer v b w)
 look_left v b w =
     cond_both (eqb b 0) (record v { steps = v.steps + 1; first = slot_looked v.first w }) (record v { steps = v.steps + 1; second = slot_looked v.second w })
-    (Leaves v) (λ e. record { hears = refl; heard = refl; buckets = refl; buffer = refl; read = refl; tries = refl }) (λ e. record { hears = refl; heard = refl; buckets = refl; buffer = refl; read = refl; tries = refl })
+    (LeavesBell v) (λ e. record { hears = refl; heard = refl; buckets = refl; buffer = refl; read = refl; tries = refl }) (λ e. record { hears = refl; heard = refl; buckets = refl; buffer = refl; read = refl; tries = refl })
 
-table_left : (u : Setup) (d : Driver) (v : Side) (w : ℕ) (t : Table) → Leaves v (hand_table u d v w t).side
+table_left : (u : Setup) (d : Driver) (v : Side) (w : ℕ) (t : Table) → LeavesBell v (hand_table u d v w t).side
 table_left u d v w t = record { hears = refl; heard = refl; buckets = refl; buffer = refl; read = refl; tries = refl }
 
-active_left : (u : Setup) (d : Driver) (v : Side) (a : Option (List Counted)) → Leaves v (hand_active u d v a).side
+active_left : (u : Setup) (d : Driver) (v : Side) (a : Option (List Counted)) → LeavesBell v (hand_active u d v a).side
 active_left u d v None = same_left v
 active_left u d v (Some es) = hand_left u d v d.pair.active_number es
 
-push_left : (u : Setup) (y : World) (k : Key) (es : List Counted) → Leaves y.side (push u y k es).side
+push_left : (u : Setup) (y : World) (k : Key) (es : List Counted) → LeavesBell y.side (push u y k es).side
 push_left u y k es =
     let d = take_next y.driver k y.driver.table in
-    let full = es ++ to_write k y.driver.table ∷ [] in
+    let full = es ++ entry_to_write k y.driver.table ∷ [] in
     cond_both (leb u.size (length full)) (hand_buffer u d y.side d.pair.active_number full) (record { driver = record d { pair = record d.pair { active = Some full } }; side = y.side })
-    (λ (z : World). Leaves y.side z.side) (λ e. hand_left u d y.side d.pair.active_number full) (λ e. same_left y.side)
+    (λ (z : World). LeavesBell y.side z.side) (λ e. hand_left u d y.side d.pair.active_number full) (λ e. same_left y.side)
 
-write_left : (u : Setup) (y : World) (k : Key) (p : Pace) (a : Option (List Counted)) → Leaves y.side (write u y k p a).side
+write_left : (u : Setup) (y : World) (k : Key) (p : Pace) (a : Option (List Counted)) → LeavesBell y.side (write u y k p a).side
 write_left u y k Free None = same_left y.side
 write_left u y k Exact None = same_left y.side
 write_left u y k p (Some es) = push_left u y k es
 
-find_left : (h : Two) (d : Driver) (v : Side) (a : Option (List Counted)) → Leaves v (find_buffer h d v a).side
+find_left : (h : Two) (d : Driver) (v : Side) (a : Option (List Counted)) → LeavesBell v (find_buffer h d v a).side
 find_left h d v (Some es) = same_left v
 find_left h d v None =
     let b = d.pair.next in let v1 = side_look_buffer v b (word_at h b) in
     cond_both (is_even (word_at h b)) (record { driver = activate d b; side = v1 }) (look_other h d v1 (other b))
-    (λ (z : World). Leaves v z.side)
+    (λ (z : World). LeavesBell v z.side)
     (λ e. look_left v b (word_at h b))
     (λ e. two_left v v1 (side_look_buffer v1 (other b) (word_at h (other b))) (look_left v b (word_at h b)) (look_left v1 (other b) (word_at h (other b))))
 
-sample_left : (u : Setup) (h : Two) (x : World) (k : Key) → Leaves x.side (take_sample u h x k).side
+sample_left : (u : Setup) (h : Two) (x : World) (k : Key) → LeavesBell x.side (take_sample u h x k).side
 sample_left u h x k =
     let y = find_buffer h x.driver x.side x.driver.pair.active in
     cond_both (needs_write k x.driver.table) (write_sample u h x k) (ends_with (record { driver = take_next x.driver k x.driver.table; side = x.side }) Took)
-    (λ (t : Turned). Leaves x.side t.side)
+    (λ (t : Turned). LeavesBell x.side t.side)
     (λ e. two_left x.side y.side (write_sample u h x k).side (find_left h x.driver x.side x.driver.pair.active) (write_left u y k u.pace y.driver.pair.active))
     (λ e. same_left x.side)
 
-next_left : (u : Setup) (h : Two) (w : ℕ) (x : World) (l : List Marked) → Leaves x.side (next_sample u h w x l).side
+next_left : (u : Setup) (h : Two) (w : ℕ) (x : World) (l : List Marked) → LeavesBell x.side (next_sample u h w x l).side
 next_left u h w x [] = same_left x.side
 next_left u h w x (s ∷ rest) =
-    cond_both (ltb (w / 2) s.mark) (ends_with x Held) (take_sample u h x s.key) (λ (t : Turned). Leaves x.side t.side) (λ e. same_left x.side) (λ e. sample_left u h x s.key)
+    cond_both (ltb (w / 2) s.mark) (ends_with x Held) (take_sample u h x s.key) (λ (t : Turned). LeavesBell x.side t.side) (λ e. same_left x.side) (λ e. sample_left u h x s.key)
 
-answer_left : (u : Setup) (x : World) (w : ℕ) (o : Option Table) → Leaves x.side (answer_with u x w o).side
+answer_left : (u : Setup) (x : World) (w : ℕ) (o : Option Table) → LeavesBell x.side (answer_with u x w o).side
 answer_left u x w None = same_left x.side
 answer_left u x w (Some t) =
     let y = hand_active u x.driver x.side x.driver.pair.active in
     two_left x.side y.side (hand_table u y.driver y.side w t).side (active_left u x.driver x.side x.driver.pair.active) (table_left u y.driver y.side w t)
 
 -- what the turn leaves after the table was looked for
-pub after_left : (u : Setup) (h : Words) (y : World) → Leaves y.side (after_regain u h y).side
+pub after_left : (u : Setup) (h : Words) (y : World) → LeavesBell y.side (after_regain u h y).side
 after_left u h y =
-    cond_both (answers_now u y.driver h.bell) (answer_with u y h.bell y.driver.table) (next_sample u h.two h.bell y (drop y.driver.at u.samples)) (λ (t : Turned). Leaves y.side t.side)
+    cond_both (answers_now u y.driver h.bell) (answer_with u y h.bell y.driver.table) (next_sample u h.two h.bell y (drop y.driver.at u.samples)) (λ (t : Turned). LeavesBell y.side t.side)
     (λ a. answer_left u y h.bell y.driver.table)
     (λ a. next_left u h.two h.bell y (drop y.driver.at u.samples))
 

@@ -8,7 +8,7 @@ use Rattle.sample_key.specs.declared.keys.Marked.{Marked}
 use Rattle.driver_model.specs.Lists.{AllOf, SomeOf}
 use Rattle.driver_model.specs.Table.{Table, IsTable, add, given_out, needs_room}
 use Rattle.driver_model.specs.Sides.{Side}
-use Rattle.driver_model.specs.Driver.{Setup, Driver, take_next, to_write, pair_handed, buffer_header, hand_buffer}
+use Rattle.driver_model.specs.Driver.{Setup, Driver, take_next, entry_to_write, pair_handed, buffer_header, hand_buffer}
 use Rattle.driver_model.specs.Invariant.{IsConserved, IsWholeFlush, FullOrCut, CutBy, WasOut, table_entries, active_entries}
 use Rattle.driver_laws.proofs.Lists.{each_push, each_map, all_push, all_map, all_both, all_any}
 use Rattle.driver_laws.proofs.Weights.{weight-append, batched-push, upto_push, times_next}
@@ -24,17 +24,17 @@ use Rattle.driver_laws.proofs.Changes.{losses_later}
 -- an entry that the table gave out is pushed
 pub kept_pushed : (tables : List Sent) (least most : ℕ) (u : Setup) (d : Driver) (v : Side) (t : Table) (es : List Counted) (s : Marked) (rest : List Marked) → IsRising u.samples → d.table ≡ Some t → needs_room t s.key ≡ true
     → d.pair.active ≡ Some es → length es < v.buffer → drop d.at u.samples ≡ s ∷ rest → s.mark ≤ v.heard / 2 → Loose tables least most u d v
-    → Loose tables 1 (v.buffer + 1) u (record (take_next d s.key (Some t)) { pair = record d.pair { active = Some (es ++ to_write s.key (Some t) ∷ []) } }) v
+    → Loose tables 1 (v.buffer + 1) u (record (take_next d s.key (Some t)) { pair = record d.pair { active = Some (es ++ entry_to_write s.key (Some t) ∷ []) } }) v
 kept_pushed tables least most u d v t es s rest rising held room active few left mark i =
     let k = s.key in
     let is : IsTable v.buckets t = subst (λ (z : Option Table). IfSome z (IsTable v.buckets)) held i.table in
     let some : 0 < length t.rows = omega (arith, is.size, i.buckets) in
-    let conserved : IsConserved u (record (take_next d s.key (Some t)) { pair = record d.pair { active = Some (es ++ to_write s.key (Some t) ∷ []) } }) v =
-    λ j. omega (arith, i.conserved j, ap (λ (z : Option Table). weight j (table_entries z)) held, add_weighs j k t some is.ways, (out_some (given_out (add t k).added) (entry k 1) j room).0, ap (λ (z : Option (List Counted)). weight j (active_entries z)) active, weight-append j es (to_write k (Some t) ∷ []), times_next j d.at u.samples s rest left) in
+    let conserved : IsConserved u (record (take_next d s.key (Some t)) { pair = record d.pair { active = Some (es ++ entry_to_write s.key (Some t) ∷ []) } }) v =
+    λ j. omega (arith, i.conserved j, ap (λ (z : Option Table). weight j (table_entries z)) held, add_weighs j k t some is.ways, (out_some (given_out (add t k).added) (entry k 1) j room).0, ap (λ (z : Option (List Counted)). weight j (active_entries z)) active, weight-append j es (entry_to_write k (Some t) ∷ []), times_next j d.at u.samples s rest left) in
     record {
       conserved = conserved;
       flushes = i.flushes;
-      bounded = bounded_from u (record (take_next d s.key (Some t)) { pair = record d.pair { active = Some (es ++ to_write s.key (Some t) ∷ []) } }) v conserved (λ n j l. i.bounded n j (omega arith));
+      bounded = bounded_from u (record (take_next d s.key (Some t)) { pair = record d.pair { active = Some (es ++ entry_to_write s.key (Some t) ∷ []) } }) v conserved (λ n j l. i.bounded n j (omega arith));
       order0 = i.order0;
       order1 = i.order1;
       order2 = i.order2;
@@ -46,7 +46,7 @@ kept_pushed tables least most u d v t es s rest rising held room active few left
       holds1 = i.holds1 ∙ ap (λ (z : Option (List Counted)). is_some z && eqb d.pair.active_number 1) active;
       holds2 = i.holds2 ∙ ap (λ (z : Option Table). is_some z) held;
       table = table_kept v.buckets k t i.buckets is;
-      active = (omega (arith, length-append es (to_write k (Some t) ∷ [])), omega (arith, length-append es (to_write k (Some t) ∷ [])));
+      active = (omega (arith, length-append es (entry_to_write k (Some t) ∷ [])), omega (arith, length-append es (entry_to_write k (Some t) ∷ [])));
       buckets = i.buckets;
       buffer = i.buffer;
       turn = i.turn;
@@ -64,9 +64,9 @@ kept_pushed tables least most u d v t es s rest rising held room active few left
       last = i.last;
       heard = i.heard;
       placed = omega (arith, i.placed, tally_placed d.stats (add t k).added, add_grows k t some, ap (λ (z : Option Table). length (table_entries z)) held);
-      written = omega (arith, i.written, tally_written d.stats (add t k).added, (out_some (given_out (add t k).added) (entry k 1) k room).1, ap (λ (z : Option (List Counted)). length (active_entries z)) active, length-append es (to_write k (Some t) ∷ []));
+      written = omega (arith, i.written, tally_written d.stats (add t k).added, (out_some (given_out (add t k).added) (entry k 1) k room).1, ap (λ (z : Option (List Counted)). length (active_entries z)) active, length-append es (entry_to_write k (Some t) ∷ []));
       all = omega (arith, i.all, tally_all d.stats (Some (add t k).added));
-      exact = exact_same u d (record (take_next d s.key (Some t)) { pair = record d.pair { active = Some (es ++ to_write s.key (Some t) ∷ []) } }) v v u.pace refl refl i.exact;
+      exact = exact_same u d (record (take_next d s.key (Some t)) { pair = record d.pair { active = Some (es ++ entry_to_write s.key (Some t) ∷ []) } }) v v u.pace refl refl i.exact;
       going = i.going;
       answered = i.answered;
     }
@@ -74,15 +74,15 @@ kept_pushed tables least most u d v t es s rest rising held room active few left
 -- the table is out, and the sample itself is pushed
 pub kept_direct : (tables : List Sent) (least most : ℕ) (u : Setup) (d : Driver) (v : Side) (es : List Counted) (s : Marked) (rest : List Marked) → IsRising u.samples → d.table ≡ None
     → d.pair.active ≡ Some es → length es < v.buffer → drop d.at u.samples ≡ s ∷ rest → s.mark ≤ v.heard / 2 → Loose tables least most u d v
-    → Loose tables 1 (v.buffer + 1) u (record (take_next d s.key None) { pair = record d.pair { active = Some (es ++ to_write s.key None ∷ []) } }) v
+    → Loose tables 1 (v.buffer + 1) u (record (take_next d s.key None) { pair = record d.pair { active = Some (es ++ entry_to_write s.key None ∷ []) } }) v
 kept_direct tables least most u d v es s rest rising held active few left mark i =
     let k = s.key in
-    let conserved : IsConserved u (record (take_next d s.key None) { pair = record d.pair { active = Some (es ++ to_write s.key None ∷ []) } }) v =
-    λ j. omega (arith, i.conserved j, ap (λ (z : Option (List Counted)). weight j (active_entries z)) active, weight-append j es (to_write k None ∷ []), times_next j d.at u.samples s rest left) in
+    let conserved : IsConserved u (record (take_next d s.key None) { pair = record d.pair { active = Some (es ++ entry_to_write s.key None ∷ []) } }) v =
+    λ j. omega (arith, i.conserved j, ap (λ (z : Option (List Counted)). weight j (active_entries z)) active, weight-append j es (entry_to_write k None ∷ []), times_next j d.at u.samples s rest left) in
     record {
       conserved = conserved;
       flushes = i.flushes;
-      bounded = bounded_from u (record (take_next d s.key None) { pair = record d.pair { active = Some (es ++ to_write s.key None ∷ []) } }) v conserved (λ n j l. i.bounded n j (omega arith));
+      bounded = bounded_from u (record (take_next d s.key None) { pair = record d.pair { active = Some (es ++ entry_to_write s.key None ∷ []) } }) v conserved (λ n j l. i.bounded n j (omega arith));
       order0 = i.order0;
       order1 = i.order1;
       order2 = i.order2;
@@ -94,7 +94,7 @@ kept_direct tables least most u d v es s rest rising held active few left mark i
       holds1 = i.holds1 ∙ ap (λ (z : Option (List Counted)). is_some z && eqb d.pair.active_number 1) active;
       holds2 = i.holds2;
       table = i.table;
-      active = (omega (arith, length-append es (to_write k None ∷ [])), omega (arith, length-append es (to_write k None ∷ [])));
+      active = (omega (arith, length-append es (entry_to_write k None ∷ [])), omega (arith, length-append es (entry_to_write k None ∷ [])));
       buckets = i.buckets;
       buffer = i.buffer;
       turn = i.turn;
@@ -112,9 +112,9 @@ kept_direct tables least most u d v es s rest rising held active few left mark i
       last = i.last;
       heard = i.heard;
       placed = i.placed;
-      written = omega (arith, i.written, ap (λ (z : Option (List Counted)). length (active_entries z)) active, length-append es (to_write k None ∷ []));
+      written = omega (arith, i.written, ap (λ (z : Option (List Counted)). length (active_entries z)) active, length-append es (entry_to_write k None ∷ []));
       all = omega (arith, i.all, tally_all d.stats None);
-      exact = exact_same u d (record (take_next d s.key None) { pair = record d.pair { active = Some (es ++ to_write s.key None ∷ []) } }) v v u.pace refl refl i.exact;
+      exact = exact_same u d (record (take_next d s.key None) { pair = record d.pair { active = Some (es ++ entry_to_write s.key None ∷ []) } }) v v u.pace refl refl i.exact;
       going = i.going;
       answered = i.answered;
     }

@@ -9,7 +9,7 @@ use Rattle.sample_key.specs.declared.losses.Pace.{Pace}
 use Rattle.sample_key.specs.declared.losses.Pace.TheVariants.{Free, Exact}
 use Rattle.driver_model.specs.Table.{Table, empty_table}
 use Rattle.driver_model.specs.Sides.{Side, is_even, slot_handed, room_after, side_hear, side_look_table, side_look_buffer}
-use Rattle.driver_model.specs.Driver.{Two, Words, ends_with, regain, hand_active, answer_with, look_other, look_both, find_buffer, push, write, write_sample, take_sample, next_sample, after_regain, turn_of, Setup, Driver, World, Turned, take_next, to_write, needs_write, activate, pair_handed, buffer_header, hand_buffer, hand_table, may_answer, answers_now}
+use Rattle.driver_model.specs.Driver.{Two, Words, ends_with, regain, hand_active, answer_with, look_other, look_both, find_buffer, push, write, write_sample, take_sample, next_sample, after_regain, turn_of, Setup, Driver, World, Turned, take_next, entry_to_write, needs_write, activate, pair_handed, buffer_header, hand_buffer, hand_table, may_answer, answers_now}
 use Rattle.driver_model.specs.declared.answers.Turn.TheVariants.{Took, Held, Answered, Done}
 use Rattle.driver_laws.specs.Causes.{table_after, with_table, HasBuffer, CauseAt, CauseOf}
 use Rattle.driver_laws.proofs.Lefts.{after_left, hears_turn}
@@ -29,7 +29,7 @@ hand_words u d v b es =
 push_words : (u : Setup) (y : World) (k : Key) (es : List Counted) → Words4 y.side (push u y k es).side
 push_words u y k es =
     let d = take_next y.driver k y.driver.table in
-    let full = es ++ to_write k y.driver.table ∷ [] in
+    let full = es ++ entry_to_write k y.driver.table ∷ [] in
     cond_both (leb u.size (length full)) (hand_buffer u d y.side d.pair.active_number full) (record { driver = record d { pair = record d.pair { active = Some full } }; side = y.side })
     (λ (z : World). Words4 y.side z.side) (λ e. hand_words u d y.side d.pair.active_number full) (λ e. (refl, refl, refl, refl))
 

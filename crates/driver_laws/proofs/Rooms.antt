@@ -9,14 +9,14 @@ use Rattle.sample_key.specs.declared.losses.Pace.{Pace}
 use Rattle.sample_key.specs.declared.losses.Pace.TheVariants.{Free, Exact}
 use Rattle.driver_model.specs.Lists.{AllOf}
 use Rattle.driver_model.specs.Table.{Table, entries_in, empty_table}
-use Rattle.driver_model.specs.Sides.{Room, Side, is_even, slot_looked, slot_handed, room_after, side_hear, side_look_table, side_look_buffer}
-use Rattle.driver_model.specs.Driver.{Two, Words, ends_with, regain, hand_active, answer_with, other, word_at, look_other, find_buffer, write, write_sample, take_sample, next_sample, after_regain, turn_of, Setup, Driver, World, Turned, take_next, to_write, needs_write, activate, pair_handed, buffer_header, table_header, hand_buffer, hand_table, answers_now}
+use Rattle.driver_model.specs.Sides.{HasRoomFor, Room, Side, is_even, slot_looked, slot_handed, room_after, side_hear, side_look_table, side_look_buffer}
+use Rattle.driver_model.specs.Driver.{Two, Words, ends_with, regain, hand_active, answer_with, other, word_at, look_other, find_buffer, write, write_sample, take_sample, next_sample, after_regain, turn_of, Setup, Driver, World, Turned, take_next, entry_to_write, needs_write, activate, pair_handed, buffer_header, table_header, hand_buffer, hand_table, answers_now}
 use Rattle.driver_model.specs.Invariant.{FullOrCut, last_answer, table_entries, active_entries, entries_of, DriverInvariant}
 use Rattle.driver_model.specs.declared.answers.Turn.TheVariants.{Took, Held, Done}
 use Rattle.driver_laws.proofs.Tables.{empty_entries}
 use Rattle.driver_laws.proofs.Marks.{due_most}
 use Rattle.driver_laws.proofs.Parts.{entries-push, few_answers}
-use Rattle.driver_laws.specs.Turns.{hands_in, entries_handed, SameTotal, RoomLowered, RoomFor}
+use Rattle.driver_laws.specs.Turns.{hands_in, entries_handed, SameTotal, RoomLowered}
 
 -- the room of a side falls by what is handed, and by nothing else
 
@@ -47,16 +47,16 @@ two_rooms v w x h g = at v.room w.room h g
         last (Some y) h g = (omega (arith, h.0, g.0), omega (arith, h.1, g.1))
 
 -- one batch was handed
-one_hand : (v w : Side) (b : Sent) → RoomFor 1 (length b.entries) v.room → w.room ≡ room_after v.room b → hands_in w ≡ hands_in v + 1
+one_hand : (v w : Side) (b : Sent) → HasRoomFor 1 (length b.entries) v.room → w.room ≡ room_after v.room b → hands_in w ≡ hands_in v + 1
     → entries_handed w ≡ entries_handed v + length b.entries → RoomLowered v w
 one_hand v w b f e n m = at v.room f e
   where
-    at : (o : Option Room) → RoomFor 1 (length b.entries) o → w.room ≡ room_after o b → MatchOption o (w.room ≡ None) (λ r. IsSomeAnd w.room (λ s. SameTotal r v s w))
+    at : (o : Option Room) → HasRoomFor 1 (length b.entries) o → w.room ≡ room_after o b → MatchOption o (w.room ≡ None) (λ r. IsSomeAnd w.room (λ s. SameTotal r v s w))
     at None f e = e
     at (Some r) f e = subst (λ (o : Option Room). IsSomeAnd o (λ s. SameTotal r v s w)) (sym e) (omega (arith, f.0, n), omega (arith, f.1, m))
 
 -- a buffer was handed
-buffer_room : (u : Setup) (d : Driver) (v : Side) (b : ℕ) (es : List Counted) → RoomFor 1 (length es) v.room → RoomLowered v (hand_buffer u d v b es).side
+buffer_room : (u : Setup) (d : Driver) (v : Side) (b : ℕ) (es : List Counted) → HasRoomFor 1 (length es) v.room → RoomLowered v (hand_buffer u d v b es).side
 buffer_room u d v b es f =
     let x : Sent = record { note = buffer_header u d.at b (pair_handed d.pair b); entries = es } in
     let v0 : Side = record v { steps = v.steps + 1; first = slot_handed v.first x; room = room_after v.room x } in
@@ -66,26 +66,26 @@ buffer_room u d v b es f =
     (λ e. one_hand v v1 x f refl (omega (arith, length-append v.second.handed (x ∷ []))) (omega (arith, entries-push v.second.handed x)))
 
 -- the table was handed
-table_room : (u : Setup) (d : Driver) (v : Side) (w : ℕ) (t : Table) → RoomFor 1 (length (entries_in t)) v.room → RoomLowered v (hand_table u d v w t).side
+table_room : (u : Setup) (d : Driver) (v : Side) (w : ℕ) (t : Table) → HasRoomFor 1 (length (entries_in t)) v.room → RoomLowered v (hand_table u d v w t).side
 table_room u d v w t f =
     let x : Sent = record { note = table_header u d w; entries = entries_in t } in
     one_hand v (hand_table u d v w t).side x f refl (omega (arith, length-append v.third.handed (x ∷ []))) (omega (arith, entries-push v.third.handed x))
 
 -- less room is enough for less
-less_room : (a b m n : ℕ) (o : Option Room) → b ≤ a → n ≤ m → RoomFor a m o → RoomFor b n o
+less_room : (a b m n : ℕ) (o : Option Room) → b ≤ a → n ≤ m → HasRoomFor a m o → HasRoomFor b n o
 less_room a b m n None l k h = tt
 less_room a b m n (Some r) l k h = (omega (arith, h.0), omega (arith, h.1))
 
 -- after one hand there is room for one less
-after_room : (n m : ℕ) (v w : Side) (b : Sent) → w.room ≡ room_after v.room b → length b.entries + m ≤ n → RoomFor 2 n v.room → RoomFor 1 m w.room
-after_room n m v w b e l f = subst (λ (o : Option Room). RoomFor 1 m o) (sym e) (at v.room f)
+after_room : (n m : ℕ) (v w : Side) (b : Sent) → w.room ≡ room_after v.room b → length b.entries + m ≤ n → HasRoomFor 2 n v.room → HasRoomFor 1 m w.room
+after_room n m v w b e l f = subst (λ (o : Option Room). HasRoomFor 1 m o) (sym e) (at v.room f)
   where
-    at : (o : Option Room) → RoomFor 2 n o → RoomFor 1 m (room_after o b)
+    at : (o : Option Room) → HasRoomFor 2 n o → HasRoomFor 1 m (room_after o b)
     at None f = tt
     at (Some r) f = (omega (arith, f.0), omega (arith, f.1))
 
 -- what a flush hands
-answer_room : (u : Setup) (d : Driver) (v : Side) (w : ℕ) (t : Table) (a : Option (List Counted)) → RoomFor 2 (length (entries_in t) + length (active_entries a) + 1) v.room
+answer_room : (u : Setup) (d : Driver) (v : Side) (w : ℕ) (t : Table) (a : Option (List Counted)) → HasRoomFor 2 (length (entries_in t) + length (active_entries a) + 1) v.room
     → RoomLowered v (hand_table u (hand_active u d v a).driver (hand_active u d v a).side w t).side
 answer_room u d v w t None f = table_room u d v w t (less_room 2 1 (length (entries_in t) + 0 + 1) (length (entries_in t)) v.room (omega arith) (omega arith) f)
 answer_room u d v w t (Some es) f =
@@ -107,19 +107,19 @@ look_room v b w =
     (λ e. (refl, same_room v (record v { steps = v.steps + 1; second = slot_looked v.second w }) refl refl refl refl))
 
 -- what a write hands, where the active buffer has at most so many entries
-write_room : (u : Setup) (y : World) (k : Key) (p : Pace) (a : Option (List Counted)) (n : ℕ) → length (active_entries a) ≤ n → RoomFor 1 (n + 1) y.side.room → RoomLowered y.side (write u y k p a).side
+write_room : (u : Setup) (y : World) (k : Key) (p : Pace) (a : Option (List Counted)) (n : ℕ) → length (active_entries a) ≤ n → HasRoomFor 1 (n + 1) y.side.room → RoomLowered y.side (write u y k p a).side
 write_room u y k Free None n l f = same_room y.side y.side refl refl refl refl
 write_room u y k Exact None n l f = same_room y.side y.side refl refl refl refl
 write_room u y k p (Some es) n l f =
     let d = take_next y.driver k y.driver.table in
-    let full = es ++ to_write k y.driver.table ∷ [] in
+    let full = es ++ entry_to_write k y.driver.table ∷ [] in
     cond_both (leb u.size (length full)) (hand_buffer u d y.side d.pair.active_number full) (record { driver = record d { pair = record d.pair { active = Some full } }; side = y.side })
     (λ (z : World). RoomLowered y.side z.side)
-    (λ e. buffer_room u d y.side d.pair.active_number full (less_room 1 1 (n + 1) (length full) y.side.room (omega arith) (omega (arith, l, length-append es (to_write k y.driver.table ∷ []))) f))
+    (λ e. buffer_room u d y.side d.pair.active_number full (less_room 1 1 (n + 1) (length full) y.side.room (omega arith) (omega (arith, l, length-append es (entry_to_write k y.driver.table ∷ []))) f))
     (λ e. same_room y.side y.side refl refl refl refl)
 
 -- what a write hands after a buffer was looked for
-find_room : (u : Setup) (h : Two) (d : Driver) (v : Side) (k : Key) (a : Option (List Counted)) → d.pair.active ≡ a → RoomFor 1 (length (active_entries a) + 1) v.room
+find_room : (u : Setup) (h : Two) (d : Driver) (v : Side) (k : Key) (a : Option (List Counted)) → d.pair.active ≡ a → HasRoomFor 1 (length (active_entries a) + 1) v.room
     → RoomLowered v (write u (find_buffer h d v a) k u.pace (find_buffer h d v a).driver.pair.active).side
 find_room u h d v k (Some es) e f =
     write_room u (record { driver = d; side = v }) k u.pace d.pair.active (length es) (omega (arith, ap (λ (z : Option (List Counted)). length (active_entries z)) e)) f
@@ -129,9 +129,9 @@ find_room u h d v k None e f =
     cond_both (is_even (word_at h b)) (record { driver = activate d b; side = v1 }) (look_other h d v1 (other b))
     (λ (y : World). RoomLowered v (write u y k u.pace y.driver.pair.active).side)
     (λ even. two_rooms v v1 (write u (record { driver = activate d b; side = v1 }) k u.pace (Some [])).side r1.1
-    (write_room u (record { driver = activate d b; side = v1 }) k u.pace (Some []) 0 (omega arith) (subst (λ (o : Option Room). RoomFor 1 1 o) (sym r1.0) f)))
+    (write_room u (record { driver = activate d b; side = v1 }) k u.pace (Some []) 0 (omega arith) (subst (λ (o : Option Room). HasRoomFor 1 1 o) (sym r1.0) f)))
     (λ odd.
-    let f2 : RoomFor 1 1 v2.room = subst (λ (o : Option Room). RoomFor 1 1 o) (sym (r2.0 ∙ r1.0)) f in
+    let f2 : HasRoomFor 1 1 v2.room = subst (λ (o : Option Room). HasRoomFor 1 1 o) (sym (r2.0 ∙ r1.0)) f in
     let both : RoomLowered v v2 = two_rooms v v1 v2 r1.1 r2.1 in
     cond_both (is_even (word_at h (other b))) (activate d (other b)) d
     (λ (z : Driver). RoomLowered v (write u (record { driver = z; side = v2 }) k u.pace z.pair.active).side)
@@ -141,7 +141,7 @@ find_room u h d v k None e f =
     (write_room u (record { driver = d; side = v2 }) k u.pace d.pair.active 0 (omega (arith, ap (λ (z : Option (List Counted)). length (active_entries z)) e)) f2)))
 
 -- what a turn hands after the table was looked for
-after_room_falls : (u : Setup) (h : Words) (y : World) (o : Option Table) → y.driver.table ≡ o → RoomFor 2 (length (table_entries o) + length (active_entries y.driver.pair.active) + 1) y.side.room
+after_room_falls : (u : Setup) (h : Words) (y : World) (o : Option Table) → y.driver.table ≡ o → HasRoomFor 2 (length (table_entries o) + length (active_entries y.driver.pair.active) + 1) y.side.room
     → RoomLowered y.side (after_regain u h y).side
 after_room_falls u h y o e f =
     let same : RoomLowered y.side y.side = same_room y.side y.side refl refl refl refl in
@@ -149,7 +149,7 @@ after_room_falls u h y o e f =
     (λ a. subst (λ (z : Option Table). RoomLowered y.side (answer_with u y h.bell z).side) (sym e) (answers o f))
     (λ a. next (drop y.driver.at u.samples))
   where
-    answers : (o : Option Table) → RoomFor 2 (length (table_entries o) + length (active_entries y.driver.pair.active) + 1) y.side.room → RoomLowered y.side (answer_with u y h.bell o).side
+    answers : (o : Option Table) → HasRoomFor 2 (length (table_entries o) + length (active_entries y.driver.pair.active) + 1) y.side.room → RoomLowered y.side (answer_with u y h.bell o).side
     answers None f = same_room y.side y.side refl refl refl refl
     answers (Some t) f = answer_room u y.driver y.side h.bell t y.driver.pair.active f
 
@@ -164,7 +164,7 @@ after_room_falls u h y o e f =
         (λ c. same_room y.side y.side refl refl refl refl))
 
 -- a turn lowers the room by what it hands
-pub room_turn : (u : Setup) (h : Words) (d : Driver) (v : Side) → RoomFor 2 (length (table_entries d.table) + length (active_entries d.pair.active) + 1) v.room
+pub room_turn : (u : Setup) (h : Words) (d : Driver) (v : Side) → HasRoomFor 2 (length (table_entries d.table) + length (active_entries d.pair.active) + 1) v.room
     → RoomLowered v (turn_of u h (record { driver = d; side = v })).side
 room_turn u h d v f =
     let x : World = record { driver = d; side = v } in let w = side_hear v h.bell in
@@ -172,7 +172,7 @@ room_turn u h d v f =
     (λ e. same_room v v refl refl refl refl)
     (λ e. regained d.table refl f)
   where
-    regained : (o : Option Table) → d.table ≡ o → RoomFor 2 (length (table_entries o) + length (active_entries d.pair.active) + 1) v.room
+    regained : (o : Option Table) → d.table ≡ o → HasRoomFor 2 (length (table_entries o) + length (active_entries d.pair.active) + 1) v.room
         → RoomLowered v (after_regain u h (regain d (side_hear v h.bell) h.third o)).side
     regained (Some t) e f =
         let w = side_hear v h.bell in let y : World = record { driver = d; side = w } in
@@ -196,7 +196,7 @@ few_entries cell size tables (b ∷ bs) h = omega (arith, h.0.0, few_entries cel
 -- the room is enough
 pub enough_room : (u : Setup) (d : Driver) (v : Side) (r : Room) (requests : ℕ) → DriverInvariant u d v
     → r.hands + hands_in v ≡ length u.samples + 2 * requests + 2 → r.entries + entries_handed v ≡ length u.samples + 1 → d.answered ≤ 2 * requests
-    → RoomFor 2 (length (table_entries d.table) + length (active_entries d.pair.active) + 1) (Some r)
+    → HasRoomFor 2 (length (table_entries d.table) + length (active_entries d.pair.active) + 1) (Some r)
 enough_room u d v r requests i hands entries few =
     let most : d.at ≤ length u.samples = omega (arith, i.in_range.at, due_most u.samples (v.heard / 2)) in
     let first = few_entries 0 u.size v.third.handed v.first.handed i.well_formed.sizes0 in

@@ -10,7 +10,7 @@ use Rattle.sample_key.specs.declared.losses.Pace.{Pace}
 use Rattle.sample_key.specs.declared.losses.Pace.TheVariants.{Free, Exact}
 use Rattle.driver_model.specs.Table.{Table, entries_in, empty_table}
 use Rattle.driver_model.specs.Sides.{Side, is_even, slot_looked, slot_handed, room_after, side_hear, side_look_table, side_look_buffer}
-use Rattle.driver_model.specs.Driver.{Two, Words, ends_with, regain, hand_active, answer_with, other, word_at, look_other, look_both, find_buffer, write, write_sample, take_sample, next_sample, after_regain, turn_of, Setup, Driver, World, Turned, take_next, to_write, needs_write, activate, pair_handed, buffer_header, table_header, hand_buffer, hand_table, lose, may_answer, answers_now}
+use Rattle.driver_model.specs.Driver.{Two, Words, ends_with, regain, hand_active, answer_with, other, word_at, look_other, look_both, find_buffer, write, write_sample, take_sample, next_sample, after_regain, turn_of, Setup, Driver, World, Turned, take_next, entry_to_write, needs_write, activate, pair_handed, buffer_header, table_header, hand_buffer, hand_table, lose, may_answer, answers_now}
 use Rattle.driver_model.specs.Invariant.{IsSetup, FullOrCut, CutBy, DriverInvariant}
 use Rattle.driver_model.specs.declared.answers.Turn.TheVariants.{Took, Held, Done}
 use Rattle.driver_laws.proofs.Lists.{all_map, some_push, some_last}
@@ -18,7 +18,7 @@ use Rattle.driver_laws.proofs.Loose.{Loose, loose_of, strict_of}
 use Rattle.driver_laws.proofs.Changes.{kept_hear, kept_table_back, kept_table_out, kept_counted, kept_out0, kept_out1, kept_back0, kept_back1}
 use Rattle.driver_laws.proofs.Pushes.{kept_pushed, kept_direct, kept_hand0, kept_hand1}
 use Rattle.driver_laws.proofs.Ends.{kept_lost, closed_by}
-use Rattle.driver_laws.specs.Turns.{IsFair}
+use Rattle.driver_laws.specs.Turns.{AreFairWords}
 
 -- a turn keeps the invariant: the small changes joined, as the definition of the turn joins them
 
@@ -247,17 +247,17 @@ push_kept u d v k full o size same i b number =
 write_active : (u : Setup) (d : Driver) (v : Side) (s : Marked) (rest : List Marked) (es : List Counted) (o : Option Table) → IsSetup u → u.size ≡ v.buffer
     → d.pair.active ≡ Some es → d.table ≡ o → needs_write s.key o ≡ true → drop d.at u.samples ≡ s ∷ rest → s.mark ≤ v.heard / 2
     → Loose v.third.handed 0 v.buffer u d v
-    → DriverInvariant u (cond (leb u.size (length (es ++ to_write s.key o ∷ []))) (hand_buffer u (take_next d s.key o) v (take_next d s.key o).pair.active_number (es ++ to_write s.key o ∷ []))
-    (record { driver = record (take_next d s.key o) { pair = record (take_next d s.key o).pair { active = Some (es ++ to_write s.key o ∷ []) } }; side = v })).driver
-    (cond (leb u.size (length (es ++ to_write s.key o ∷ []))) (hand_buffer u (take_next d s.key o) v (take_next d s.key o).pair.active_number (es ++ to_write s.key o ∷ []))
-    (record { driver = record (take_next d s.key o) { pair = record (take_next d s.key o).pair { active = Some (es ++ to_write s.key o ∷ []) } }; side = v })).side
+    → DriverInvariant u (cond (leb u.size (length (es ++ entry_to_write s.key o ∷ []))) (hand_buffer u (take_next d s.key o) v (take_next d s.key o).pair.active_number (es ++ entry_to_write s.key o ∷ []))
+    (record { driver = record (take_next d s.key o) { pair = record (take_next d s.key o).pair { active = Some (es ++ entry_to_write s.key o ∷ []) } }; side = v })).driver
+    (cond (leb u.size (length (es ++ entry_to_write s.key o ∷ []))) (hand_buffer u (take_next d s.key o) v (take_next d s.key o).pair.active_number (es ++ entry_to_write s.key o ∷ []))
+    (record { driver = record (take_next d s.key o) { pair = record (take_next d s.key o).pair { active = Some (es ++ entry_to_write s.key o ∷ []) } }; side = v })).side
 write_active u d v s rest es (Some t) setup size active held needs left mark i =
     let few : (0 ≤ length es) × (length es < v.buffer) = subst (λ (z : Option (List Counted)). IfSome z (λ es. (0 ≤ length es) × (length es < v.buffer))) active i.active in
-    push_kept u d v s.key (es ++ to_write s.key (Some t) ∷ []) (Some t) size refl
+    push_kept u d v s.key (es ++ entry_to_write s.key (Some t) ∷ []) (Some t) size refl
     (kept_pushed v.third.handed 0 v.buffer u d v t es s rest setup.rising held needs active few.1 left mark i) d.pair.active_number refl
 write_active u d v s rest es None setup size active held needs left mark i =
     let few : (0 ≤ length es) × (length es < v.buffer) = subst (λ (z : Option (List Counted)). IfSome z (λ es. (0 ≤ length es) × (length es < v.buffer))) active i.active in
-    push_kept u d v s.key (es ++ to_write s.key None ∷ []) None size refl
+    push_kept u d v s.key (es ++ entry_to_write s.key None ∷ []) None size refl
     (kept_direct v.third.handed 0 v.buffer u d v es s rest setup.rising held active few.1 left mark i) d.pair.active_number refl
 
 -- no buffer is back: the sample is lost or held
@@ -283,7 +283,7 @@ abbrev Writes : Setup → Key → World → Type 0
 Writes u k y = Keeps u (write u y k u.pace y.driver.pair.active)
 
 -- both buffers are looked at, buffer 0 first
-look_from0 : (u : Setup) (h : Two) (d : Driver) (v : Side) (s : Marked) (rest : List Marked) → IsSetup u → u.size ≡ v.buffer → IsFair v h → d.pair.active ≡ None
+look_from0 : (u : Setup) (h : Two) (d : Driver) (v : Side) (s : Marked) (rest : List Marked) → IsSetup u → u.size ≡ v.buffer → AreFairWords v h → d.pair.active ≡ None
     → needs_write s.key d.table ≡ true → drop d.at u.samples ≡ s ∷ rest → s.mark ≤ v.heard / 2 → Loose v.third.handed 1 v.buffer u d v → Writes u s.key (look_both h d v 0)
 look_from0 u h d v s rest setup size fair none needs left mark i =
     cond_both (is_even h.first) (record { driver = activate d 0; side = side_look_buffer v 0 h.first }) (look_other h d (side_look_buffer v 0 h.first) 1)
@@ -302,7 +302,7 @@ look_from0 u h d v s rest setup size fair none needs left mark i =
     (kept_out1 v.third.handed 1 v.buffer u d v1 h.second none odd1 i1))))
 
 -- both buffers are looked at, buffer 1 first
-look_from1 : (u : Setup) (h : Two) (d : Driver) (v : Side) (s : Marked) (rest : List Marked) → IsSetup u → u.size ≡ v.buffer → IsFair v h → d.pair.active ≡ None
+look_from1 : (u : Setup) (h : Two) (d : Driver) (v : Side) (s : Marked) (rest : List Marked) → IsSetup u → u.size ≡ v.buffer → AreFairWords v h → d.pair.active ≡ None
     → needs_write s.key d.table ≡ true → drop d.at u.samples ≡ s ∷ rest → s.mark ≤ v.heard / 2 → Loose v.third.handed 1 v.buffer u d v → Writes u s.key (look_both h d v 1)
 look_from1 u h d v s rest setup size fair none needs left mark i =
     cond_both (is_even h.second) (record { driver = activate d 1; side = side_look_buffer v 1 h.second }) (look_other h d (side_look_buffer v 1 h.second) 0)
@@ -321,7 +321,7 @@ look_from1 u h d v s rest setup size fair none needs left mark i =
     (kept_out0 v.third.handed 1 v.buffer u d v1 h.first none odd0 i1))))
 
 -- the sample needs a write, by what is active
-write_kept : (u : Setup) (h : Two) (d : Driver) (v : Side) (s : Marked) (rest : List Marked) (a : Option (List Counted)) → IsSetup u → u.size ≡ v.buffer → IsFair v h
+write_kept : (u : Setup) (h : Two) (d : Driver) (v : Side) (s : Marked) (rest : List Marked) (a : Option (List Counted)) → IsSetup u → u.size ≡ v.buffer → AreFairWords v h
     → d.pair.active ≡ a → needs_write s.key d.table ≡ true → drop d.at u.samples ≡ s ∷ rest → s.mark ≤ v.heard / 2 → Loose v.third.handed 1 v.buffer u d v
     → Writes u s.key (find_buffer h d v a)
 write_kept u h d v s rest (Some es) setup size fair active needs left mark i =
@@ -333,7 +333,7 @@ write_kept u h d v s rest None setup size fair active needs left mark i =
     (λ e. look_from1 u h d v s rest setup size fair active needs left mark i)
 
 -- the next sample is due, by where the table is
-sample_kept : (u : Setup) (h : Two) (d : Driver) (v : Side) (s : Marked) (rest : List Marked) (o : Option Table) → IsSetup u → u.size ≡ v.buffer → IsFair v h
+sample_kept : (u : Setup) (h : Two) (d : Driver) (v : Side) (s : Marked) (rest : List Marked) (o : Option Table) → IsSetup u → u.size ≡ v.buffer → AreFairWords v h
     → d.table ≡ o → drop d.at u.samples ≡ s ∷ rest → s.mark ≤ v.heard / 2 → Loose v.third.handed 1 v.buffer u d v
     → needs_write s.key o ≡ false → Keeps u (ends_with (record { driver = take_next d s.key o; side = v }) Took)
 sample_kept u h d v s rest None setup size fair held left mark i needs = cc
@@ -341,7 +341,7 @@ sample_kept u h d v s rest (Some t) setup size fair held left mark i needs =
     strict_of u (take_next d s.key (Some t)) v (kept_counted v.third.handed 1 v.buffer u d v t s rest setup.rising held needs left mark i)
 
 -- the turn goes on with the samples that are left
-next_kept : (u : Setup) (h : Two) (w : ℕ) (d : Driver) (v : Side) (l : List Marked) → IsSetup u → u.size ≡ v.buffer → IsFair v h → w ≡ v.heard
+next_kept : (u : Setup) (h : Two) (w : ℕ) (d : Driver) (v : Side) (l : List Marked) → IsSetup u → u.size ≡ v.buffer → AreFairWords v h → w ≡ v.heard
     → drop d.at u.samples ≡ l → Loose v.third.handed 1 v.buffer u d v → Keeps u (next_sample u h w (record { driver = d; side = v }) l)
 next_kept u h w d v [] setup size fair here left i = strict_of u d v i
 next_kept u h w d v (s ∷ rest) setup size fair here left i =
@@ -355,7 +355,7 @@ next_kept u h w d v (s ∷ rest) setup size fair here left i =
     (λ none. sample_kept u h d v s rest d.table setup size fair refl left mark i none))
 
 -- the turn goes on after the table was looked for
-after_kept : (u : Setup) (h : Words) (d : Driver) (v : Side) → IsSetup u → u.size ≡ v.buffer → IsFair v h.two → h.bell ≡ v.heard → Loose v.third.handed 1 v.buffer u d v
+after_kept : (u : Setup) (h : Words) (d : Driver) (v : Side) → IsSetup u → u.size ≡ v.buffer → AreFairWords v h.two → h.bell ≡ v.heard → Loose v.third.handed 1 v.buffer u d v
     → Keeps u (after_regain u h (record { driver = d; side = v }))
 after_kept u h d v setup size fair here i =
     let x : World = record { driver = d; side = v } in
@@ -364,14 +364,14 @@ after_kept u h d v setup size fair here i =
     (λ none. next_kept u h.two h.bell d v (drop d.at u.samples) setup size fair here refl i)
 
 -- the turn goes on after the table was looked for, by where the table was
-regained_kept : (u : Setup) (h : Words) (d : Driver) (v : Side) (o : Option Table) → IsSetup u → u.size ≡ v.buffer → IsFair v h.two → h.bell ≡ v.heard → d.table ≡ o
+regained_kept : (u : Setup) (h : Words) (d : Driver) (v : Side) (o : Option Table) → IsSetup u → u.size ≡ v.buffer → AreFairWords v h.two → h.bell ≡ v.heard → d.table ≡ o
     → Loose v.third.handed 1 v.buffer u d v → Keeps u (after_regain u h (regain d v h.third o))
 regained_kept u h d v (Some t) setup size fair here held i = after_kept u h d v setup size fair here i
 regained_kept u h d v None setup size fair here held i =
     after_kept u h (regain d v h.third None).driver (side_look_table v h.third) setup size fair here (regain_kept u d v h.third None held i)
 
 -- a turn keeps the invariant
-pub kept_turn : (u : Setup) (h : Words) (d : Driver) (v : Side) → IsSetup u → u.size ≡ v.buffer → IsFair v h.two → v.heard ≤ h.bell → DriverInvariant u d v
+pub kept_turn : (u : Setup) (h : Words) (d : Driver) (v : Side) → IsSetup u → u.size ≡ v.buffer → AreFairWords v h.two → v.heard ≤ h.bell → DriverInvariant u d v
     → Keeps u (turn_of u h (record { driver = d; side = v }))
 kept_turn u h d v setup size fair later i =
     cond_both d.done (ends_with (record { driver = d; side = v }) Done) (after_regain u h (regain d (side_hear v h.bell) h.third d.table)) (Keeps u)
@@ -407,7 +407,7 @@ write_steps u y k Free None = omega arith
 write_steps u y k Exact None = omega arith
 write_steps u y k p (Some es) =
     let d = take_next y.driver k y.driver.table in
-    let full = es ++ to_write k y.driver.table ∷ [] in
+    let full = es ++ entry_to_write k y.driver.table ∷ [] in
     cond_both (leb u.size (length full)) (hand_buffer u d y.side d.pair.active_number full) (record { driver = record d { pair = record d.pair { active = Some full } }; side = y.side })
     (λ (z : World). z.side.steps ≤ y.side.steps + 1) (λ e. hand_steps u d y.side d.pair.active_number full) (λ e. omega arith)
 

@@ -1,82 +1,108 @@
-use Rattle.std.specs.Prelude.{◌≡◌, ℕ, ◌+◌, ◌*◌, ◌%◌, ◌≤◌, false, length, Option, Some, None, MatchOption, IsSomeAnd, IfSome}
-use Rattle.driver_model.specs.Sides.{Room, Side, is_even, new_side}
+-- The laws of a turn: it keeps the invariant, makes few calls, and lowers the room of its side by
+-- just what it hands.
+use Rattle.std.specs.Prelude.{◌≡◌, ℕ, ◌+◌, ◌*◌, ◌%◌, ◌≤◌, false, length, Option, Some, None, MatchOption, IsSomeAnd}
+use Rattle.driver_model.specs.Sides.{Slot, Room, Side, HasRoomFor, is_even, new_side}
 use Rattle.driver_model.specs.Handover.{side_poll_buffer, side_poll_table, side_called}
-use Rattle.driver_model.specs.Driver.{Setup, Driver, World, Two, Words, turn_of, new_driver}
+use Rattle.driver_model.specs.Driver.{Setup, Driver, World, Two, Words, Turned, turn_of, new_driver}
 use Rattle.driver_model.specs.Invariant.{IsSetup, DriverInvariant, entries_of, table_entries, active_entries}
 
--- a word that says that a buffer is out stands for the last batch of it that was handed
-abbrev pub IsFair : Side → Two → Type 0
-IsFair v h =
-    (is_even h.first ≡ false → h.first + 1 ≡ 2 * length v.first.handed)
-    × (is_even h.second ≡ false → h.second + 1 ≡ 2 * length v.second.handed)
+-- a word that says that a value is out stands for the last batch of the cell that was handed
+abbrev pub IsFairWord : Slot → ℕ → Type 0
+IsFairWord slot word = is_even word ≡ false → word + 1 ≡ 2 * length slot.handed
+
+-- the words of both buffers are fair
+abbrev pub AreFairWords : Side → Two → Type 0
+AreFairWords side words = IsFairWord side.first words.first × IsFairWord side.second words.second
+
+-- the invariant holds of a driver and its side as a turn left them
+abbrev pub KeepsAfter : Setup → Turned → Type 0
+KeepsAfter setup turned = DriverInvariant setup turned.driver turned.side
 
 -- the invariant holds of a new driver with a new side of any size
 abbrev pub StartKeeps : Type 0
-StartKeeps = (u : Setup) (room : Option Room) (buckets buffer : ℕ) → u.last % 2 ≡ 1 → 1 ≤ buckets → 1 ≤ buffer
-    → DriverInvariant u new_driver (new_side room buckets buffer)
+StartKeeps = (setup : Setup) (room : Option Room) (buckets buffer : ℕ)
+    → setup.last % 2 ≡ 1 → 1 ≤ buckets → 1 ≤ buffer
+    → DriverInvariant setup new_driver (new_side room buckets buffer)
 
--- a turn keeps the invariant, where the bell value is not below the one heard last and the words are fair
+-- a turn keeps the invariant, where the bell value is not below the one heard last and the words
+-- are fair
 abbrev pub TurnKeeps : Type 0
-TurnKeeps = (u : Setup) (h : Words) (d : Driver) (v : Side) → IsSetup u → u.size ≡ v.buffer → IsFair v h.two → v.heard ≤ h.bell
-    → DriverInvariant u d v
-    → DriverInvariant u (turn_of u h (record { driver = d; side = v })).driver (turn_of u h (record { driver = d; side = v })).side
+TurnKeeps = (setup : Setup) (words : Words) (driver : Driver) (side : Side)
+    → IsSetup setup → setup.size ≡ side.buffer
+    → AreFairWords side words.two → side.heard ≤ words.bell
+    → DriverInvariant setup driver side
+    → KeepsAfter setup (turn_of setup words (record { driver = driver; side = side }))
 
 -- a turn makes at most five calls
 abbrev pub FewCalls : Type 0
-FewCalls = (u : Setup) (h : Words) (x : World) → (turn_of u h x).side.steps ≤ x.side.steps + 5
+FewCalls = (setup : Setup) (words : Words) (world : World)
+    → (turn_of setup words world).side.steps ≤ world.side.steps + 5
 
 -- how many batches the cells were handed
 abbrev pub hands_in : Side → ℕ
-hands_in v = length v.first.handed + length v.second.handed + length v.third.handed
+hands_in side = length side.first.handed + length side.second.handed + length side.third.handed
 
 -- how many entries those batches have
 abbrev pub entries_handed : Side → ℕ
-entries_handed v = entries_of v.first.handed + entries_of v.second.handed + entries_of v.third.handed
+entries_handed side =
+    entries_of side.first.handed + entries_of side.second.handed + entries_of side.third.handed
 
--- what may be handed, and what was handed
+-- what may be handed and what was handed are together as before
 abbrev pub SameTotal : Room → Side → Room → Side → Type 0
-SameTotal r v s w = (s.hands + hands_in w ≡ r.hands + hands_in v) × (s.entries + entries_handed w ≡ r.entries + entries_handed v)
+SameTotal room side left after =
+    (left.hands + hands_in after ≡ room.hands + hands_in side)
+    × (left.entries + entries_handed after ≡ room.entries + entries_handed side)
 
 -- the room of a side that tells it was lowered by just the hands made and the entries in them
 abbrev pub RoomLowered : Side → Side → Type 0
-RoomLowered v w = MatchOption v.room (w.room ≡ None) (λ r. IsSomeAnd w.room (λ s. SameTotal r v s w))
+RoomLowered side after =
+    MatchOption side.room (after.room ≡ None)
+    (λ room. IsSomeAnd after.room (λ left. SameTotal room side left after))
 
--- there is room for one hand more, with so many entries, where the side tells its room
-abbrev pub RoomFor : ℕ → ℕ → Option Room → Type 0
-RoomFor hands entries room = IfSome room (λ r. (hands ≤ r.hands) × (entries ≤ r.entries))
+-- there is room for whatever a turn may hand: the active buffer and the table, with one entry more
+-- than they hold
+abbrev pub HasRoomForTurn : Driver → Option Room → Type 0
+HasRoomForTurn driver room =
+    HasRoomFor 2
+    (length (table_entries driver.table) + length (active_entries driver.pair.active) + 1) room
 
 -- a turn lowers the room of its side by just what it handed, where there is enough for it
 abbrev pub RoomFalls : Type 0
-RoomFalls = (u : Setup) (h : Words) (d : Driver) (v : Side)
-    → RoomFor 2 (length (table_entries d.table) + length (active_entries d.pair.active) + 1) v.room
-    → RoomLowered v (turn_of u h (record { driver = d; side = v })).side
+RoomFalls = (setup : Setup) (words : Words) (driver : Driver) (side : Side)
+    → HasRoomForTurn driver side.room
+    → RoomLowered side (turn_of setup words (record { driver = driver; side = side })).side
 
--- Room for a hand for each sample, two for each request and two more, and for an entry for each sample and one more, is enough
--- for every turn, where no answer is above twice the requests.
+-- Room for a hand for each sample, two for each request and two more, and for an entry for each
+-- sample and one more, is enough for every turn, where no answer is above twice the requests.
 abbrev pub RoomIsEnough : Type 0
-RoomIsEnough = (u : Setup) (d : Driver) (v : Side) (r : Room) (requests : ℕ) → DriverInvariant u d v
-    → r.hands + hands_in v ≡ length u.samples + 2 * requests + 2 → r.entries + entries_handed v ≡ length u.samples + 1
-    → d.answered ≤ 2 * requests
-    → RoomFor 2 (length (table_entries d.table) + length (active_entries d.pair.active) + 1) (Some r)
-
--- what the calls of a turn leave after the bell was heard and the table looked for
-pub record Leaves (v w : Side) : Type 0 where
-  pub hears : w.hears ≡ v.hears
-  pub heard : w.heard ≡ v.heard
-  pub buckets : w.buckets ≡ v.buckets
-  pub buffer : w.buffer ≡ v.buffer
-  pub read : w.third.read ≡ v.third.read
-  pub tries : w.third.tries ≡ v.third.tries
+RoomIsEnough = (setup : Setup) (driver : Driver) (side : Side) (room : Room) (requests : ℕ)
+    → DriverInvariant setup driver side
+    → room.hands + hands_in side ≡ length setup.samples + 2 * requests + 2
+    → room.entries + entries_handed side ≡ length setup.samples + 1
+    → driver.answered ≤ 2 * requests
+    → HasRoomForTurn driver (Some room)
 
 -- the bell was heard once, with this value, and the made sizes stay
-pub record HearsOnce (v w : Side) (bell : ℕ) : Type 0 where
-  pub hears : w.hears ≡ v.hears + 1
-  pub heard : w.heard ≡ bell
-  pub buckets : w.buckets ≡ v.buckets
-  pub buffer : w.buffer ≡ v.buffer
+pub record HearsOnce (before after : Side) (bell : ℕ) : Type 0 where
+  pub hears : after.hears ≡ before.hears + 1
+  pub heard : after.heard ≡ bell
+  pub buckets : after.buckets ≡ before.buckets
+  pub buffer : after.buffer ≡ before.buffer
+
+-- a turn hears the bell once and leaves the made sizes, where the close was not answered before
+abbrev pub BellIsHeard : Type 0
+BellIsHeard = (setup : Setup) (words : Words) (driver : Driver) (side : Side)
+    → driver.done ≡ false
+    → HearsOnce side (turn_of setup words (record { driver = driver; side = side })).side words.bell
 
 -- the daemon's calls keep the invariant
 pub record PollsKeep : Type 0 where
-  pub buffer : (u : Setup) (d : Driver) (v : Side) (b w : ℕ) → DriverInvariant u d v → DriverInvariant u d (side_poll_buffer v b w)
-  pub table : (u : Setup) (d : Driver) (v : Side) (w : ℕ) → DriverInvariant u d v → DriverInvariant u d (side_poll_table v w)
-  pub called : (u : Setup) (d : Driver) (v : Side) → DriverInvariant u d v → DriverInvariant u d (side_called v)
+  pub buffer : (setup : Setup) (driver : Driver) (side : Side) (number word : ℕ)
+      → DriverInvariant setup driver side
+      → DriverInvariant setup driver (side_poll_buffer side number word)
+  pub table : (setup : Setup) (driver : Driver) (side : Side) (word : ℕ)
+      → DriverInvariant setup driver side
+      → DriverInvariant setup driver (side_poll_table side word)
+  pub called : (setup : Setup) (driver : Driver) (side : Side)
+      → DriverInvariant setup driver side
+      → DriverInvariant setup driver (side_called side)

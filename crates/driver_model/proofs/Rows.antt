@@ -1,4 +1,4 @@
-use Rattle.std.proofs.Common.{◌≡◌, ℕ, ◌+◌, ◌%◌, List, [], ◌∷◌, refl, true, false, Some, None}
+use Rattle.std.proofs.Common.{◌≡◌, ℕ, zero, suc, ◌+◌, ◌%◌, List, [], ◌∷◌, refl, true, false, Some, None}
 use Rattle.sample_key.specs.Counted.{entry}
 use Rattle.sample_key.specs.declared.events.Event.TheVariants.{Cycles}
 use Rattle.sample_key.specs.declared.keys.Key.{Key}
@@ -7,13 +7,23 @@ use Rattle.sample_key.specs.declared.losses.Pace.TheVariants.{Free}
 use Rattle.driver_model.specs.Table.{Table, add, empty_table, needs_room}
 use Rattle.driver_model.specs.Sides.{new_side}
 use Rattle.driver_model.specs.Handover.{Given, none_given}
-use Rattle.driver_model.specs.Driver.{Setup, World, new_driver}
-use Rattle.driver_model.specs.Runs.{next_turn, turns}
+use Rattle.driver_model.specs.Driver.{Setup, World, Turned, new_driver}
+use Rattle.driver_model.specs.Runs.{next_turn}
 use Rattle.driver_model.specs.declared.answers.Added.TheVariants.{Folded, Placed, Evicted}
 use Rattle.driver_model.specs.declared.answers.Turn.TheVariants.{Took, Lost, Held, Answered, Idle}
 use Rattle.driver_model.specs.declared.plans.Stats.{Stats}
 
 -- worked examples, computed by the definitions
+
+-- the driver and its side as a turn left them
+abbrev left_by : Turned → World
+left_by turned = record { driver = turned.driver; side = turned.side }
+
+-- so many turns on end, at the same bell value and with nothing given back meanwhile
+abbrev turns : ℕ → Setup → ℕ → Given → World → World
+turns zero setup bell given world = world
+turns (suc n) setup bell given world =
+    turns n setup bell given (left_by (next_turn setup bell given world))
 
 -- process 7 counts cycles at this program counter
 abbrev at_pc : (pc : ℕ) → pc % 4 ≡ 0 → Key

@@ -1,3 +1,4 @@
+-- Facts of each element of a list, of each beside those before it, and of some element.
 use Rattle.std.specs.Prelude.{List, [], ◌∷◌, ◌++◌, ◌⊎◌}
 
 -- P of each element and of those before it, where `done` stands before the list

@@ -1,8 +1,7 @@
-use Rattle.std.specs.Prelude.{ℕ, ◌+◌, ◌-◌, ◌%◌, ◌==◌, Bool, false, if◌then◌else◌, List, [], ◌∷◌, ◌++◌, length, Option, Some, None}
+-- A side is what lies between a driver and the daemon: the three cells (buffers 0 and 1, and the
+-- table) and the bell. Here is what the driver's calls change of it, and what they make of it.
+use Rattle.std.specs.Prelude.{ℕ, ◌+◌, ◌-◌, ◌%◌, ◌≤◌, ◌==◌, Bool, false, if◌then◌else◌, List, [], ◌∷◌, ◌++◌, length, Option, Some, None, IfSome}
 use Rattle.sample_key.specs.Sent.{Sent}
-
--- A side is what lies between a driver and the daemon: the three cells (buffers 0 and 1, and the table) and the bell.
--- Here is what the driver's calls change of it, and what they make of it.
 
 -- one cell as the driver sees it
 pub record Slot : Type 0 where
@@ -45,47 +44,69 @@ is_even word = word % 2 == 0
 
 -- a buffer's cell, by its number
 abbrev pub slot_of : Side → ℕ → Slot
-slot_of v b = if b == 0 then v.first else v.second
+slot_of side number = if number == 0 then side.first else side.second
 
 -- the cell after a look that read this word: an even one brings the value
 abbrev pub slot_looked : Slot → ℕ → Slot
-slot_looked c word = record { handed = c.handed; holds = is_even word; tries = c.tries + 1; read = word }
+slot_looked slot word =
+    record slot { holds = is_even word; tries = slot.tries + 1; read = word }
 
 -- the cell after a hand
 abbrev pub slot_handed : Slot → Sent → Slot
-slot_handed c b = record { handed = c.handed ++ b ∷ []; holds = false; tries = c.tries; read = c.read }
+slot_handed slot batch = record slot { handed = slot.handed ++ batch ∷ []; holds = false }
 
 -- what may still be handed after this batch
 abbrev pub room_after : Option Room → Sent → Option Room
-room_after None b = None
-room_after (Some r) b = Some (record { hands = r.hands - 1; entries = r.entries - length b.entries })
+room_after None batch = None
+room_after (Some room) batch =
+    Some (record { hands = room.hands - 1; entries = room.entries - length batch.entries })
+
+-- there is room for so many hands more, with so many entries together, where the side tells its
+-- room
+abbrev pub HasRoomFor : ℕ → ℕ → Option Room → Type 0
+HasRoomFor hands entries room =
+    IfSome room (λ left. (hands ≤ left.hands) × (entries ≤ left.entries))
 
 -- the side after the driver heard this bell value
 abbrev pub side_hear : Side → ℕ → Side
-side_hear v w = record v { steps = v.steps + 1; hears = v.hears + 1; heard = w }
+side_hear side bell = record side { steps = side.steps + 1; hears = side.hears + 1; heard = bell }
 
 -- the side after the driver looked for the table and read this word
 abbrev pub side_look_table : Side → ℕ → Side
-side_look_table v word = record v { steps = v.steps + 1; third = slot_looked v.third word }
+side_look_table side word =
+    record side { steps = side.steps + 1; third = slot_looked side.third word }
 
 -- the side after the driver looked for this buffer and read this word
 abbrev pub side_look_buffer : Side → ℕ → ℕ → Side
-side_look_buffer v b word =
-    if b == 0
-    then record v { steps = v.steps + 1; first = slot_looked v.first word }
-    else record v { steps = v.steps + 1; second = slot_looked v.second word }
+side_look_buffer side number word =
+    if number == 0
+    then record side { steps = side.steps + 1; first = slot_looked side.first word }
+    else record side { steps = side.steps + 1; second = slot_looked side.second word }
 
 -- the side after the driver handed the table, which had this turn, with this batch
 abbrev pub side_hand_table : Side → Sent → ℕ → Side
-side_hand_table v b turn =
-    record v { steps = v.steps + 1; third = slot_handed v.third b; room = room_after v.room b; turn = turn }
+side_hand_table side batch turn =
+    record side {
+      steps = side.steps + 1;
+      third = slot_handed side.third batch;
+      room = room_after side.room batch;
+      turn = turn;
+    }
 
 -- the side after the driver handed this buffer with this batch
 abbrev pub side_hand_buffer : Side → ℕ → Sent → Side
-side_hand_buffer v n b =
-    if n == 0
-    then record v { steps = v.steps + 1; first = slot_handed v.first b; room = room_after v.room b }
-    else record v { steps = v.steps + 1; second = slot_handed v.second b; room = room_after v.room b }
+side_hand_buffer side number batch =
+    if number == 0
+    then record side {
+      steps = side.steps + 1;
+      first = slot_handed side.first batch;
+      room = room_after side.room batch;
+    }
+    else record side {
+      steps = side.steps + 1;
+      second = slot_handed side.second batch;
+      room = room_after side.room batch;
+    }
 
 -- a cell of a new side
 abbrev pub new_slot : Slot

@@ -1,3 +1,5 @@
+//! What adding a sample and a turn of a driver answer.
+
 use sample_key::{Entry, Loss};
 
 /// What adding a sample to the table did.

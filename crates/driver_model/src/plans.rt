@@ -1,3 +1,5 @@
+//! What a driver is made for, and how it counted its samples.
+
 use sample_key::Pace;
 
 /// What a driver is made for.
