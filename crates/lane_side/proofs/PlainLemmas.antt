@@ -487,6 +487,7 @@ taken_plain2 p h g q i =
           answers = i.third.state.1.1;
           size = i.third.state.1.2;
           last = f;
+          turn = i.third.state.1.3;
         };
       },
     )
