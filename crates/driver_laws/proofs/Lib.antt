@@ -14,3 +14,6 @@ pub mod Rooms
 pub mod Lefts
 pub mod Reasons
 pub mod Polls
+pub mod Walks
+pub mod Progress
+pub mod Closing

@@ -113,3 +113,9 @@ pub none_left : {A : Type 0} (n : ℕ) (xs : List A) → drop n xs ≡ [] → le
 none_left n [] h = omega arith
 none_left zero (y ∷ ys) h = cc
 none_left (suc n) (y ∷ ys) h = let r : length ys ≤ n = none_left n ys h in omega arith
+
+-- by the number of a buffer
+pub by_number : (P : ℕ → Type 0) (n : ℕ) → n ≤ 1 → P 0 → P 1 → P n
+by_number P zero l f g = f
+by_number P (suc zero) l f g = g
+by_number P (suc (suc n)) l f g = absurd (omega arith)

@@ -12,6 +12,7 @@ use Rattle.driver_model.specs.Sides.{Side, is_even, slot_handed, room_after, sid
 use Rattle.driver_model.specs.Driver.{Two, Words, ends_with, regain, hand_active, answer_with, look_other, look_both, find_buffer, push, write, write_sample, take_sample, next_sample, after_regain, turn_of, Setup, Driver, World, Turned, take_next, entry_to_write, needs_write, activate, pair_handed, buffer_header, hand_buffer, hand_table, may_answer, answers_now}
 use Rattle.driver_model.specs.declared.answers.Turn.TheVariants.{Took, Held, Answered, Done}
 use Rattle.driver_laws.specs.Causes.{table_after, with_table, HasBuffer, CauseAt, CauseOf}
+use Rattle.driver_laws.proofs.Lists.{by_number}
 use Rattle.driver_laws.proofs.Lefts.{after_left, hears_turn}
 
 -- the causes, along the definition of the turn
@@ -44,12 +45,6 @@ odd_of w h = elim (cases_eq (w % 2) 0) [ inl e ↦ absurd (both_ways (eqb (w % 2
     odd_here zero e l = absurd (e refl)
     odd_here (suc zero) e l = refl
     odd_here (suc (suc n)) e l = absurd (omega arith)
-
--- by the number of a buffer
-at_number : (P : ℕ → Type 0) (n : ℕ) → n ≤ 1 → P 0 → P 1 → P n
-at_number P zero l f g = f
-at_number P (suc zero) l f g = g
-at_number P (suc (suc n)) l f g = absurd (omega arith)
 
 module _ (u : Setup) (d : Driver) (v : Side) (n : ℕ) (s : Marked) (rest : List Marked) (none : answers_now u d n ≡ false) (left : drop d.at u.samples ≡ s ∷ rest)
     (mark : s.mark ≤ n / 2) (needs : needs_write s.key d.table ≡ true) where
@@ -96,7 +91,7 @@ module _ (u : Setup) (d : Driver) (v : Side) (n : ℕ) (s : Marked) (rest : List
   write_cause h (Some es) active next =
       subst (λ (a : Option (List Counted)). CauseAt u d v (write u (record { driver = d; side = v }) s.key u.pace a).side n (write u (record { driver = d; side = v }) s.key u.pace a).answer) (sym active)
       (took_it (push u (record { driver = d; side = v }) s.key es).side (inl (ap (λ (z : Option (List Counted)). is_some z) active)))
-  write_cause h None active next = at_number (λ (b : ℕ). Caused (look_both h d v b)) d.pair.next next (look0 h active) (look1 h active)
+  write_cause h None active next = by_number (λ (b : ℕ). Caused (look_both h d v b)) d.pair.next next (look0 h active) (look1 h active)
 
 -- the turn went on with the samples that were left
 next_cause : (u : Setup) (h : Two) (d : Driver) (v : Side) (n : ℕ) (l : List Marked) → answers_now u d n ≡ false → drop d.at u.samples ≡ l → d.pair.next ≤ 1

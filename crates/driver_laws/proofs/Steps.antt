@@ -13,7 +13,7 @@ use Rattle.driver_model.specs.Sides.{Side, is_even, slot_looked, slot_handed, ro
 use Rattle.driver_model.specs.Driver.{Two, Words, ends_with, regain, hand_active, answer_with, other, word_at, look_other, look_both, find_buffer, write, write_sample, take_sample, next_sample, after_regain, turn_of, Setup, Driver, World, Turned, take_next, entry_to_write, needs_write, activate, pair_handed, buffer_header, table_header, hand_buffer, hand_table, lose, may_answer, answers_now}
 use Rattle.driver_model.specs.Invariant.{IsSetup, FullOrCut, CutBy, DriverInvariant}
 use Rattle.driver_model.specs.declared.answers.Turn.TheVariants.{Took, Held, Done}
-use Rattle.driver_laws.proofs.Lists.{all_map, some_push, some_last}
+use Rattle.driver_laws.proofs.Lists.{by_number, all_map, some_push, some_last}
 use Rattle.driver_laws.proofs.Loose.{Loose, loose_of, strict_of}
 use Rattle.driver_laws.proofs.Changes.{kept_hear, kept_table_back, kept_table_out, kept_counted, kept_out0, kept_out1, kept_back0, kept_back1}
 use Rattle.driver_laws.proofs.Pushes.{kept_pushed, kept_direct, kept_hand0, kept_hand1}
@@ -25,12 +25,6 @@ use Rattle.driver_laws.specs.Turns.{AreFairWords}
 -- what a fact of one result becomes for a turn
 abbrev pub Keeps : Setup → Turned → Type 0
 Keeps u t = DriverInvariant u t.driver t.side
-
--- by the number of a buffer
-by_number : (P : ℕ → Type 0) (n : ℕ) → n ≤ 1 → (n ≡ 0 → P 0) → (n ≡ 1 → P 1) → P n
-by_number P zero l f g = f refl
-by_number P (suc zero) l f g = g refl
-by_number P (suc (suc n)) l f g = absurd (omega arith)
 
 -- a short batch is cut by a table batch also when there is one more
 cut_later : (u : Setup) (x : Sent) (tables : List Sent) (cell : ℕ) (c : Sent) → FullOrCut cell u.size tables c → FullOrCut cell u.size (tables ++ x ∷ []) c
@@ -193,7 +187,7 @@ answer_active u d v w t None setup size active held here odd above may i =
     (widened v.third.handed 1 v.buffer u d v (record { note = table_header u d w; entries = entries_in t }) i)
 answer_active u d v w t (Some es) setup size active held here odd above may i =
     let has : (1 ≤ length es) × (length es < v.buffer) = subst (λ (z : Option (List Counted)). IfSome z (λ es. (1 ≤ length es) × (length es < v.buffer))) active i.active in
-    by_number (λ (b : ℕ). DriverInvariant u (hand_table u (hand_buffer u d v b es).driver (hand_buffer u d v b es).side w t).driver (hand_table u (hand_buffer u d v b es).driver (hand_buffer u d v b es).side w t).side)
+    by_number (λ (b : ℕ). d.pair.active_number ≡ b → DriverInvariant u (hand_table u (hand_buffer u d v b es).driver (hand_buffer u d v b es).side w t).driver (hand_table u (hand_buffer u d v b es).driver (hand_buffer u d v b es).side w t).side)
     d.pair.active_number i.number
     (λ number.
     let d1 = (hand_buffer u d v 0 es).driver in let v1 = (hand_buffer u d v 0 es).side in
@@ -206,7 +200,7 @@ answer_active u d v w t (Some es) setup size active held here odd above may i =
     let x : Sent = record { note = table_header u d1 w; entries = entries_in t } in
     closed_by v.buffer u d1 v1 w t setup refl held here odd above (may_same u d d1 w u.pace refl may)
     (kept_hand1 v.third.handed (v.third.handed ++ x ∷ []) 1 v.buffer u d v es (λ cell c. cut_later u x v.third.handed cell c) active number has.0 (omega (arith, size, has.1))
-    (inr (some_last (CutBy 1 (record { note = buffer_header u d.at 1 (pair_handed d.pair 1); entries = es })) v.third.handed x (refl, refl))) i))
+    (inr (some_last (CutBy 1 (record { note = buffer_header u d.at 1 (pair_handed d.pair 1); entries = es })) v.third.handed x (refl, refl))) i)) refl
 
 -- a flush is answered
 answer_kept : (u : Setup) (d : Driver) (v : Side) (w : ℕ) (o : Option Table) → IsSetup u → u.size ≡ v.buffer → d.table ≡ o → w ≡ v.heard → answers_now u d w ≡ true
@@ -235,12 +229,12 @@ push_kept u d v k full o size same i b number =
     let short : length full < v.buffer + 1 = i.active.1 in
     let exact : length full ≡ u.size = omega arith in
     let low : d.pair.active_number ≤ 1 = i.number in
-    by_number (λ (n : ℕ). DriverInvariant u (hand_buffer u (record (take_next d k o) { pair = d.pair }) v n full).driver (hand_buffer u (record (take_next d k o) { pair = d.pair }) v n full).side)
+    by_number (λ (n : ℕ). b ≡ n → DriverInvariant u (hand_buffer u (record (take_next d k o) { pair = d.pair }) v n full).driver (hand_buffer u (record (take_next d k o) { pair = d.pair }) v n full).side)
     b (omega (arith, number))
     (λ zero_b. strict_of u (hand_buffer u e v 0 full).driver (hand_buffer u e v 0 full).side
     (kept_hand0 v.third.handed v.third.handed 1 (v.buffer + 1) u e v full (λ cell c h. h) refl (sym number ∙ zero_b) i.active.0 (omega arith) (inl exact) i))
     (λ one_b. strict_of u (hand_buffer u e v 1 full).driver (hand_buffer u e v 1 full).side
-    (kept_hand1 v.third.handed v.third.handed 1 (v.buffer + 1) u e v full (λ cell c h. h) refl (sym number ∙ one_b) i.active.0 (omega arith) (inl exact) i)))
+    (kept_hand1 v.third.handed v.third.handed 1 (v.buffer + 1) u e v full (λ cell c h. h) refl (sym number ∙ one_b) i.active.0 (omega arith) (inl exact) i)) refl)
     (λ partly. strict_of u e v (narrowed v.third.handed 1 (v.buffer + 1) v.buffer u e v (λ h. (h.0, omega (arith, leb-false u.size (length full) partly))) i))
 
 -- the sample is written to the active buffer
@@ -329,8 +323,8 @@ write_kept u h d v s rest (Some es) setup size fair active needs left mark i =
     (write_active u d v s rest es d.table setup size active refl needs left mark (loosened v.third.handed v.buffer u d v i))
 write_kept u h d v s rest None setup size fair active needs left mark i =
     by_number (λ (b : ℕ). Writes u s.key (look_both h d v b)) d.pair.next i.next
-    (λ e. look_from0 u h d v s rest setup size fair active needs left mark i)
-    (λ e. look_from1 u h d v s rest setup size fair active needs left mark i)
+    (look_from0 u h d v s rest setup size fair active needs left mark i)
+    (look_from1 u h d v s rest setup size fair active needs left mark i)
 
 -- the next sample is due, by where the table is
 sample_kept : (u : Setup) (h : Two) (d : Driver) (v : Side) (s : Marked) (rest : List Marked) (o : Option Table) → IsSetup u → u.size ≡ v.buffer → AreFairWords v h

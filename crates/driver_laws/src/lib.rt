@@ -4,6 +4,7 @@
 
 ghost use Rattle.driver_laws.specs.Turns.{StartKeeps, TurnKeeps, PollsKeep, FewCalls, RoomFalls, RoomIsEnough, BellIsHeard};
 ghost use Rattle.driver_laws.specs.Causes.{AnswersHaveCauses};
+ghost use Rattle.driver_laws.specs.Doings.{TurnDid, TurnGoesOn, TurnGetsOn, DoneIsClosed, ClosedIsAtRest};
 
 /// The invariant holds of a new driver with a new side, and every turn and every call of the daemon keeps it.
 pub fn invariant_is_kept()
@@ -35,4 +36,22 @@ pub fn bell_is_heard()
 /// Each answer of a turn has its cause.
 pub fn answers_have_causes()
     ensures { AnswersHaveCauses }
+{}
+
+/// A turn leaves each of the three cells alone, or hands one batch over it: what a run of drivers and daemon is made of.
+pub fn turns_hand_batches()
+    ensures { TurnDid }
+{}
+
+/// A turn gives no sample back, and at the free pace it gets on while a flush is asked for: why a run ends.
+pub fn turns_go_on()
+    ensures later { TurnGoesOn }
+    ensures gets_on { TurnGetsOn }
+{}
+
+/// A turn that answers Done has answered the close, after which the driver holds nothing: what is known where its thread is
+/// joined.
+pub fn closes_are_answered()
+    ensures done { DoneIsClosed }
+    ensures rest { ClosedIsAtRest }
 {}

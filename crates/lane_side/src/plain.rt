@@ -72,7 +72,13 @@ impl PlainSide {
         requires buffer { (1 ≤ buffer) × (buffer ≤ 8192) }
         ensures seen { IfOk result (λ s. s.seen ≡ new_side (Some (record { hands = length samples.now.items + 2 * requests + 2; entries = length samples.now.items + 1 })) buckets buffer) }
         ensures far { IfOk result (λ s. s.far ≡ new_far (Some none_given)) }
-        ensures fixed { IfOk result (λ s. s.fixed ≡ record { cpu = cpu; samples = samples.now.items; even = false; told = true; ends = None }) }
+        ensures fixed { IfOk result (λ s. s.fixed ≡ record {
+          cpu = cpu;
+          samples = samples.now.items;
+          even = false;
+          told = true;
+          ends = None;
+        }) }
     {
         let count = samples.len();
         let kept = History::new(alloc, count + 2 * requests + 2, count + 1)?;
