@@ -1,3 +1,4 @@
 pub mod CutLemmas
 pub mod PlainLemmas
 pub mod PlainCalls
+mod HandingLemmas

@@ -58,7 +58,7 @@ without-push (c ∷ []) b = refl
 without-push (c ∷ d ∷ bs) b = ap {B = List Sent} (λ (z : List Sent). c ∷ z) (without-push (d ∷ bs) b)
 
 -- the value rung last
-last-push : (n : ℕ) (rungs : List ℕ) (w : ℕ) → last_from n (rungs ++ w ∷ []) ≡ w
+pub last-push : (n : ℕ) (rungs : List ℕ) (w : ℕ) → last_from n (rungs ++ w ∷ []) ≡ w
 last-push n [] w = refl
 last-push n (x ∷ xs) w = last-push x xs w
 
@@ -66,10 +66,10 @@ last_rung : (n : ℕ) (rungs : List ℕ) → (last_from n rungs ≡ n) ⊎ SomeO
 last_rung n [] = inl refl
 last_rung n (x ∷ xs) = elim (last_rung x xs) [ inl e ↦ inr (inl (sym e)) | inr h ↦ inr (inr h) ]
 
-was_rung : (rungs : List ℕ) → WasRung (rung_of rungs) rungs
+pub was_rung : (rungs : List ℕ) → WasRung (rung_of rungs) rungs
 was_rung rungs = last_rung 0 rungs
 
-still_rung : (n w : ℕ) (rungs : List ℕ) → WasRung n rungs → WasRung n (rungs ++ w ∷ [])
+pub still_rung : (n w : ℕ) (rungs : List ℕ) → WasRung n rungs → WasRung n (rungs ++ w ∷ [])
 still_rung n w rungs (inl e) = inl e
 still_rung n w rungs (inr h) = inr (some_push (λ x. x ≡ n) rungs w h)
 

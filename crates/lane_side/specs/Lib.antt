@@ -7,3 +7,4 @@ pub mod Tallies
 pub mod Tallied
 pub mod Plain
 pub mod Insides
+pub mod Handing
