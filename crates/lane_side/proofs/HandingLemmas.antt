@@ -15,7 +15,7 @@ use Rattle.lane_side.specs.Handing.{CellHandsOver, CellsHandOver, HandsOver}
 use Rattle.turn_cell.specs.declared.passing.Look.{Look}
 use Rattle.turn_cell.specs.declared.passing.PollOf.{PollOf}
 use Rattle.turn_cell.specs.declared.passing.PollOf.TheVariants.{Parcel as Got, Home}
-use Rattle.lane_side.proofs.PlainLemmas.{last-push, was_rung, still_rung}
+use Rattle.lane_side.proofs.Bells.{last-push, was_rung, still_rung, rises_push}
 
 -- two lists with one element more at the end are the same only with the same element
 same_last : (xs ys : List Sent) (x y : Sent) → xs ++ x ∷ [] ≡ ys ++ y ∷ [] → x ≡ y
@@ -191,11 +191,6 @@ handed_table_over fixed v f p may i = record {
   cells = over_map f.given v (side_hand_table v (table_sent p) p.body.turn) f f (λ g s c. record { first = c.first; second = c.second; third = handed_cell v.third f.third g.third (table_sent p) may.hand.holds c.third }) i.cells;
   bell = i.bell;
 }
-
--- a value rung is no lower than those before it
-rises_push : (least : ℕ) (rungs : List ℕ) (value : ℕ) → NeverFallsFrom least rungs → last_from least rungs ≤ value → NeverFallsFrom least (rungs ++ value ∷ [])
-rises_push least [] value h l = (l, tt)
-rises_push least (x ∷ xs) value h l = (h.0, rises_push x xs value h.1 l)
 
 -- the bell was rung
 pub rang_over : (v : Side) (f : FarSide) (value tries : ℕ) → rung_of f.rungs ≤ value → value ≤ 2 ^ 32 → HandsOver v f → HandsOver (side_called v) (far_rang f value tries)

@@ -1,4 +1,6 @@
 pub mod CutLemmas
+pub mod Bells
+pub mod CellLemmas
 pub mod PlainLemmas
 pub mod PlainCalls
 mod HandingLemmas

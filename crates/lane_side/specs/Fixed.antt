@@ -1,4 +1,5 @@
-use Rattle.std.specs.Prelude.{ℕ, Bool, List, Option}
+-- What no call of a side changes.
+use Rattle.std.specs.Prelude.{ℕ, Bool, true, false, List, Option, None}
 use Rattle.atomic_table.specs.Seated.{TableId}
 use Rattle.sample_key.specs.declared.keys.Marked.{Marked}
 
@@ -20,3 +21,8 @@ pub record Fixed : Type 0 where
   pub told : Bool
   -- the cells and the bell, where there are shared ones
   pub ends : Option Ends
+
+-- a plain side is polled as one likes, tells the values rung, and has no shared cells under it
+abbrev pub plain_fixed : ℕ → List Marked → Fixed
+plain_fixed cpu samples =
+    record { cpu = cpu; samples = samples; even = false; told = true; ends = None }

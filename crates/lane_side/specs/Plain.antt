@@ -1,12 +1,14 @@
+-- A plain side: what its fields say to the two traits, and what it keeps between its calls.
 use Rattle.std.specs.Prelude.{◌≡◌, ℕ, ◌+◌, ◌^◌, ◌≤◌, ◌==◌, true, false, List, [], ◌∷◌, ◌++◌, length, filter, Some, None}
 use Rattle.sample_key.specs.Sent.{Sent}
 use Rattle.sample_key.specs.declared.keys.Marked.{Marked}
 use Rattle.sample_key.specs.declared.batches.Parcel.{Parcel}
+use Rattle.sample_key.specs.declared.limits.TheConstants.{LAST_CELL}
 use Rattle.driver_model.specs.Table.{Table, entries_in, empty_table}
-use Rattle.driver_model.specs.Sides.{Side}
-use Rattle.driver_model.specs.Handover.{FarSide, rung_of, WasRung}
+use Rattle.driver_model.specs.Sides.{Slot, Side}
+use Rattle.driver_model.specs.Handover.{FarSlot, Given, FarSide, NeverFallsFrom, rung_of, WasRung}
 use Rattle.overflow_pair.specs.Contents.{Contents, empty_buffer}
-use Rattle.lane_side.specs.Fixed.{Fixed}
+use Rattle.lane_side.specs.Fixed.{Fixed, plain_fixed}
 use Rattle.lane_side.specs.Calls.{KeepsNote, buffer_sent, table_sent}
 use Rattle.lane_side.specs.Kept.{Kept}
 use Rattle.lane_side.specs.Cells.{is_drivers, is_daemons}
@@ -36,94 +38,139 @@ pub record Parts : Type 0 where
 
 -- the batches of one cell
 abbrev pub handed_in : ℕ → List Sent → List Sent
-handed_in n sent = filter (λ b. b.note.cell == n) sent
+handed_in cell sent = filter (λ batch. batch.note.cell == cell) sent
 
 -- a list without its last element
 abbrev pub without_last : List Sent → List Sent
 without_last [] = []
-without_last (b ∷ []) = []
-without_last (b ∷ c ∷ bs) = b ∷ without_last (c ∷ bs)
+without_last (batch ∷ []) = []
+without_last (batch ∷ next ∷ batches) = batch ∷ without_last (next ∷ batches)
 
 -- the batches that were taken of those that were handed: the last one may still wait
 abbrev pub taken_in : {B : Type 0} → List Sent → State B → List Sent
-taken_in handed (AtHome x) = handed
+taken_in handed (AtHome value) = handed
 taken_in handed WithDriver = handed
-taken_in handed (Posted p) = without_last handed
+taken_in handed (Posted parcel) = without_last handed
 taken_in handed WithDaemon = handed
+
+-- a cell as the driver sees it, of which these batches were handed
+abbrev pub slot_in : {B : Type 0} → List Sent → State B → ℕ → ℕ → Slot
+slot_in handed state tries read =
+    record { handed = handed; holds = is_drivers state; tries = tries; read = read }
+
+-- and as the daemon sees it
+abbrev pub far_slot_in : {B : Type 0} → List Sent → State B → FarSlot
+far_slot_in handed state =
+    record { taken = taken_in handed state; holds = is_daemons state }
+
+-- the batches of a cell of a plain side
+abbrev pub handed_of : Parts → ℕ → List Sent
+handed_of parts cell = handed_in cell parts.kept.sent
 
 -- the driver's half
 abbrev pub seen_of : Parts → Side
-seen_of p = record {
-  first = record { handed = handed_in 0 p.kept.sent; holds = is_drivers p.first.state; tries = p.tallies.tries0; read = p.tallies.read0 };
-  second = record { handed = handed_in 1 p.kept.sent; holds = is_drivers p.second.state; tries = p.tallies.tries1; read = p.tallies.read1 };
-  third = record { handed = handed_in 2 p.kept.sent; holds = is_drivers p.third.state; tries = p.tallies.tries2; read = p.tallies.read2 };
-  steps = p.tallies.steps;
-  hears = p.tallies.hears;
-  heard = p.tallies.heard;
-  room = Some p.kept.room;
-  buckets = p.buckets;
-  buffer = p.buffer;
-  turn = p.tallies.turn;
+seen_of parts = record {
+  first =
+      slot_in (handed_of parts 0) parts.first.state parts.tallies.tries0 parts.tallies.read0;
+  second =
+      slot_in (handed_of parts 1) parts.second.state parts.tallies.tries1 parts.tallies.read1;
+  third =
+      slot_in (handed_of parts 2) parts.third.state parts.tallies.tries2 parts.tallies.read2;
+  steps = parts.tallies.steps;
+  hears = parts.tallies.hears;
+  heard = parts.tallies.heard;
+  room = Some parts.kept.room;
+  buckets = parts.buckets;
+  buffer = parts.buffer;
+  turn = parts.tallies.turn;
 }
+
+-- how often the values were given back
+abbrev pub given_in : Parts → Given
+given_in parts =
+    record { first = parts.first.given; second = parts.second.given; third = parts.third.given }
 
 -- the daemon's half
 abbrev pub far_of : Parts → FarSide
-far_of p = record {
-  first = record { taken = taken_in (handed_in 0 p.kept.sent) p.first.state; holds = is_daemons p.first.state };
-  second = record { taken = taken_in (handed_in 1 p.kept.sent) p.second.state; holds = is_daemons p.second.state };
-  third = record { taken = taken_in (handed_in 2 p.kept.sent) p.third.state; holds = is_daemons p.third.state };
-  turn = p.tallies.far_turn;
-  given = Some (record { first = p.first.given; second = p.second.given; third = p.third.given });
-  rungs = p.tallies.rungs;
-  rung_at = p.tallies.rung_at;
+far_of parts = record {
+  first = far_slot_in (handed_of parts 0) parts.first.state;
+  second = far_slot_in (handed_of parts 1) parts.second.state;
+  third = far_slot_in (handed_of parts 2) parts.third.state;
+  turn = parts.tallies.far_turn;
+  given = Some (given_in parts);
+  rungs = parts.tallies.rungs;
+  rung_at = parts.tallies.rung_at;
 }
 
--- what no call changes: it is polled as one likes, tells the values rung, and has no shared cells under it
+-- what no call changes of a plain side
 abbrev pub fixed_of : Parts → Fixed
-fixed_of p = record { cpu = p.cpu; samples = p.samples; even = false; told = true; ends = None }
+fixed_of parts = plain_fixed parts.cpu parts.samples
 
 -- all that the traits speak of
 abbrev pub plain_of : Parts → Plain
-plain_of p = record { seen = seen_of p; far = far_of p; fixed = fixed_of p }
+plain_of parts = record { seen = seen_of parts; far = far_of parts; fixed = fixed_of parts }
 
--- the facts of a cell, by where its value is
-abbrev pub StateIs : {B : Type 0} → List Sent → (Parcel B → Sent) → (B → Type 0) → (Parcel B → Type 0) → Type 0 → ℕ → ℕ → State B → Type 0
-StateIs handed sent home posted gone hands given (AtHome x) = (given ≡ hands) × home x
+-- The facts of a cell, by where its value is: `home` holds of a value at home, `posted` of a parcel
+-- that waits, and `gone` while the daemon holds the value.
+abbrev pub StateIs : {B : Type 0} → List Sent → (Parcel B → Sent) → (B → Type 0)
+    → (Parcel B → Type 0) → Type 0 → ℕ → ℕ → State B → Type 0
+StateIs handed sent home posted gone hands given (AtHome value) = (given ≡ hands) × home value
 StateIs handed sent home posted gone hands given WithDriver = given ≡ hands
-StateIs handed sent home posted gone hands given (Posted p) =
-    (given + 1 ≡ hands) × posted p × ((front : List Sent) × (handed ≡ front ++ sent p ∷ []))
+StateIs handed sent home posted gone hands given (Posted parcel) =
+    (given + 1 ≡ hands) × posted parcel
+    × ((front : List Sent) × (handed ≡ front ++ sent parcel ∷ []))
 StateIs handed sent home posted gone hands given WithDaemon = (given + 1 ≡ hands) × gone
 
 -- a cell whose batches are these: it was handed as often, and its value is where the words say
-pub record IsCell {B : Type 0} (handed : List Sent) (sent : Parcel B → Sent) (home : B → Type 0) (posted : Parcel B → Type 0) (gone : Type 0) (c : Cell B) : Type 0 where
-  pub hands : c.hands ≡ length handed
-  pub bound : c.hands ≤ 2 ^ 62
-  pub state : StateIs handed sent home posted gone c.hands c.given c.state
+pub record IsCell {B : Type 0} (handed : List Sent) (sent : Parcel B → Sent) (home : B → Type 0)
+    (posted : Parcel B → Type 0) (gone : Type 0) (cell : Cell B) : Type 0 where
+  pub hands : cell.hands ≡ length handed
+  pub bound : cell.hands ≤ 2 ^ 62
+  pub state : StateIs handed sent home posted gone cell.hands cell.given cell.state
 
 -- a buffer at home is empty and of its made size
-abbrev pub BufferHome : Parts → Contents → Type 0
-BufferHome p x = x ≡ empty_buffer p.buffer
+abbrev pub BufferHome : ℕ → Contents → Type 0
+BufferHome size buffer = buffer ≡ empty_buffer size
 
 -- a buffer that was handed keeps what a poll promises
-abbrev pub BufferPosted : ℕ → Parts → Parcel Contents → Type 0
-BufferPosted n p q = KeepsNote n (length q.body.entries) (fixed_of p) p.tallies.rungs q.note × (q.note.answers ≡ 0) × (q.body.size ≡ p.buffer)
+abbrev pub BufferPosted : ℕ → Fixed → ℕ → List ℕ → Parcel Contents → Type 0
+BufferPosted number fixed size rungs parcel =
+    KeepsNote number (length parcel.body.entries) fixed rungs parcel.note
+    × (parcel.note.answers ≡ 0) × (parcel.body.size ≡ size)
 
 -- the table at home is empty, of its made size and with the turn of its last hand
-abbrev pub TableHome : Parts → Table → Type 0
-TableHome p x = x ≡ empty_table p.buckets p.tallies.turn
+abbrev pub TableHome : ℕ → ℕ → Table → Type 0
+TableHome buckets turn table = table ≡ empty_table buckets turn
 
 -- the table that was handed keeps what a poll promises
-abbrev pub TablePosted : Parts → Parcel Table → Type 0
-TablePosted p q =
-    KeepsNote 2 (length (entries_in q.body)) (fixed_of p) p.tallies.rungs q.note × WasRung q.note.answers p.tallies.rungs
-    × (length q.body.rows ≡ p.buckets) × (q.body.turn ≡ p.tallies.turn)
+abbrev pub TablePosted : Fixed → ℕ → List ℕ → ℕ → Parcel Table → Type 0
+TablePosted fixed buckets rungs turn parcel =
+    KeepsNote LAST_CELL (length (entries_in parcel.body)) fixed rungs parcel.note
+    × WasRung parcel.note.answers rungs
+    × (length parcel.body.rows ≡ buckets) × (parcel.body.turn ≡ turn)
+
+-- a cell of a buffer of a plain side
+abbrev pub IsBufferCell : ℕ → Parts → Cell Contents → Type 0
+IsBufferCell number parts cell =
+    IsCell (handed_in number parts.kept.sent) buffer_sent (BufferHome parts.buffer)
+        (BufferPosted number (plain_fixed parts.cpu parts.samples) parts.buffer parts.tallies.rungs)
+        (Unit {0}) cell
+
+-- the cell of the table of a plain side
+abbrev pub IsTableCell : Parts → Cell Table → Type 0
+IsTableCell parts cell =
+    IsCell (handed_in 2 parts.kept.sent) table_sent (TableHome parts.buckets parts.tallies.turn)
+        (TablePosted (plain_fixed parts.cpu parts.samples)
+            parts.buckets parts.tallies.rungs parts.tallies.turn)
+        (parts.tallies.far_turn ≡ parts.tallies.turn) cell
 
 -- a plain side keeps this between its calls
-pub record IsPlain (p : Parts) : Type 0 where
-  pub first : IsCell (handed_in 0 p.kept.sent) buffer_sent (BufferHome p) (BufferPosted 0 p) (Unit {0}) p.first
-  pub second : IsCell (handed_in 1 p.kept.sent) buffer_sent (BufferHome p) (BufferPosted 1 p) (Unit {0}) p.second
-  pub third : IsCell (handed_in 2 p.kept.sent) table_sent (TableHome p) (TablePosted p) (p.tallies.far_turn ≡ p.tallies.turn) p.third
-  pub bell : p.bell ≡ rung_of p.tallies.rungs
-  pub bound : p.bell ≤ 2 ^ 32
-  pub heard : p.tallies.heard ≤ p.bell
-  pub known : WasRung p.tallies.heard p.tallies.rungs
+pub record IsPlain (parts : Parts) : Type 0 where
+  pub first : IsBufferCell 0 parts parts.first
+  pub second : IsBufferCell 1 parts parts.second
+  pub third : IsTableCell parts parts.third
+  pub bell : parts.bell ≡ rung_of parts.tallies.rungs
+  pub rising : NeverFallsFrom 0 parts.tallies.rungs
+  pub bound : parts.bell ≤ 2 ^ 32
+  pub heard : parts.tallies.heard ≤ parts.bell
+  pub known : WasRung parts.tallies.heard parts.tallies.rungs
