@@ -45,7 +45,7 @@ without-push (c ∷ []) b = refl
 without-push (c ∷ d ∷ bs) b = ap {B = List Sent} (λ (z : List Sent). c ∷ z) (without-push (d ∷ bs) b)
 
 -- what the last batch of a list leaves
-all_but : (hs front : List Sent) (b : Sent) → hs ≡ front ++ b ∷ [] → hs ≡ without_last hs ++ b ∷ []
+pub all_but : (hs front : List Sent) (b : Sent) → hs ≡ front ++ b ∷ [] → hs ≡ without_last hs ++ b ∷ []
 all_but hs front b e = e ∙ ap (λ (z : List Sent). z ++ b ∷ []) (sym (ap without_last e ∙ without-push front b))
 
 -- what a look finds at a cell

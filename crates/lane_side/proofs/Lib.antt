@@ -4,3 +4,4 @@ pub mod CellLemmas
 pub mod PlainLemmas
 pub mod PlainCalls
 mod HandingLemmas
+mod PlainHanding

@@ -21,13 +21,13 @@ use Rattle.lane_side.proofs.Bells.{last-push, was_rung, still_rung, rises_push, 
 use Rattle.lane_side.proofs.CellLemmas.{own_push, other_push, look_cell, LookFinds, poll_cell, PollFinds, hand_cell, hand_far, give_cell, along_cell, later_cell}
 
 -- the facts of the parcels of a side's cells, and of its table at home
-abbrev Posted0 : ℕ → Parts → Parcel Contents → Type 0
+abbrev pub Posted0 : ℕ → Parts → Parcel Contents → Type 0
 Posted0 n p = BufferPosted n (fixed_of p) p.buffer p.tallies.rungs
 
-abbrev Posted2 : Parts → Parcel Table → Type 0
+abbrev pub Posted2 : Parts → Parcel Table → Type 0
 Posted2 p = TablePosted (fixed_of p) p.buckets p.tallies.rungs p.tallies.turn
 
-abbrev Gone2 : Parts → Type 0
+abbrev pub Gone2 : Parts → Type 0
 Gone2 p = p.tallies.far_turn ≡ p.tallies.turn
 
 -- the bell was heard

@@ -6,6 +6,7 @@
 mod cells;
 mod counts;
 mod endpoints;
+mod handovers;
 mod history;
 mod plain;
 mod plain_daemon;
@@ -13,6 +14,7 @@ mod plain_lane;
 mod sides;
 
 pub use endpoints::Endpoint;
+pub use handovers::{calls_hand_over, plain_sides_hand_over};
 pub use plain::PlainSide;
 pub use sides::{DaemonSide, LaneSide, Poll};
 pub use turn_cell::{Look, PollOf};
