@@ -1,5 +1,5 @@
 -- A turn that answers Done has answered the close, and what the close left.
-use Rattle.std.proofs.Common.{◌≡◌, ℕ, ◌+◌, ◌/◌, List, [], ◌∷◌, drop, refl, sym, ◌∙◌, ap, Bool, true, false, Some, None, Option, eqb, ◌&&◌, eqb-true, ltb}
+use Rattle.std.proofs.Common.{◌≡◌, ℕ, ◌/◌, List, [], ◌∷◌, drop, sym, ◌∙◌, ap, true, false, Some, None, Option, eqb, ◌&&◌, eqb-true, ltb}
 use Rattle.std.specs.Prelude.{is_some}
 use Rattle.std.proofs.lemmas.Bool.{cond_both}
 use Rattle.sample_key.specs.Counted.{Counted}

@@ -1,7 +1,7 @@
 -- A turn gives no sample back, and at the free pace it gets on, along the definition of the turn.
 use Rattle.std.proofs.Common.{◌≡◌, ℕ, zero, suc, ◌+◌, ◌/◌, ◌%◌, ◌<◌, ◌≤◌, List, [], ◌∷◌, ◌++◌, length, drop, refl, sym, ◌∙◌, ap, subst, arith, inl, inr, Bool, true, false, Some, None, Option, leb, ltb, eqb, ◌&&◌, ltb-true, ltb-false, leb-false, eqb-true, eq-eqb}
 use Rattle.std.specs.Prelude.{is_some, not, ◌||◌, ◌⊎◌}
-use Rattle.std.proofs.lemmas.Bool.{cond_both, cond-false, lt-ltb}
+use Rattle.std.proofs.lemmas.Bool.{cond_both, cond-false}
 use Rattle.sample_key.specs.Counted.{Counted}
 use Rattle.sample_key.specs.Sent.{Sent}
 use Rattle.sample_key.specs.Marks.{MarksUpTo}
@@ -162,10 +162,10 @@ module _ (u : Setup) (h : Words) (d : Driver) (v : Side) (y : World) (r : Regain
       cond_both (answers_now u y.driver h.bell) (answer_with u y h.bell y.driver.table) (next_sample u h.two h.bell y (drop y.driver.at u.samples)) (GetsOn h.bell d v)
       (λ answers. answers_on y.driver.table some)
       (λ none. elim (why_not (eqb (h.bell % 2) 1) (ltb y.driver.answered h.bell) (is_some y.driver.table) (may_answer u y.driver h.bell u.pace) (eq-eqb (h.bell % 2) 1 odd) some none) [
-        inl before ↦ inl (omega (arith, ltb-false y.driver.answered h.bell before, r.answered))
+        | inl before ↦ inl (omega (arith, ltb-false y.driver.answered h.bell before, r.answered))
         | inr not_yet ↦
-        let c = may_not u y.driver h.bell u.pace free not_yet in
-        next_on (drop y.driver.at u.samples) setup free (eqb-true h.bell u.last c.0) (leb-false (length u.samples) y.driver.at c.1) refl
+            let c = may_not u y.driver h.bell u.pace free not_yet in
+            next_on (drop y.driver.at u.samples) setup free (eqb-true h.bell u.last c.0) (leb-false (length u.samples) y.driver.at c.1) refl
       ])
 
 -- at the free pace a turn gets on

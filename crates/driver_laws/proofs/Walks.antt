@@ -1,5 +1,5 @@
 -- What a turn did to the three cells, along the definition of the turn.
-use Rattle.std.proofs.Common.{◌≡◌, ℕ, zero, suc, ◌+◌, ◌/◌, ◌%◌, ◌<◌, ◌≤◌, List, [], ◌∷◌, ◌++◌, length, drop, refl, sym, ◌∙◌, ap, subst, arith, inl, inr, Bool, true, false, Some, None, Option, leb, ltb, eqb, ◌&&◌, ltb-true, eqb-true, eq-eqb}
+use Rattle.std.proofs.Common.{◌≡◌, ℕ, zero, suc, ◌/◌, ◌%◌, ◌<◌, ◌≤◌, List, [], ◌∷◌, ◌++◌, length, drop, refl, ◌∙◌, ap, arith, inl, inr, Bool, true, Some, None, Option, leb, ltb, eqb, ◌&&◌, ltb-true, eqb-true, eq-eqb}
 use Rattle.std.specs.Prelude.{is_some}
 use Rattle.std.proofs.lemmas.Bool.{cond_both, and_parts}
 use Rattle.sample_key.specs.Counted.{Counted}
@@ -10,10 +10,10 @@ use Rattle.sample_key.specs.declared.losses.Pace.{Pace}
 use Rattle.sample_key.specs.declared.losses.Pace.TheVariants.{Free, Exact}
 use Rattle.driver_model.specs.Table.{Table, empty_table}
 use Rattle.driver_model.specs.Sides.{Side, is_even, side_hear, side_look_table, side_look_buffer}
-use Rattle.driver_model.specs.Driver.{Setup, Driver, World, Two, Words, Turned, Buffers, ends_with, regain, pair_handed, buffer_batch, table_batch, hand_buffer, hand_active, hand_table, answer_with, answers_now, may_answer, take_next, entry_to_write, needs_write, activate, other, word_at, look_other, look_both, find_buffer, push, lose, write, write_sample, take_sample, next_sample, after_regain, turn_of}
+use Rattle.driver_model.specs.Driver.{Setup, Driver, World, Two, Words, Buffers, ends_with, regain, pair_handed, buffer_batch, table_batch, hand_buffer, hand_active, hand_table, answer_with, answers_now, may_answer, take_next, entry_to_write, needs_write, activate, other, word_at, look_other, find_buffer, push, lose, write, write_sample, take_sample, next_sample, after_regain, turn_of}
 use Rattle.driver_model.specs.Invariant.{is_active}
 use Rattle.driver_model.specs.declared.answers.Turn.TheVariants.{Took, Held, Done}
-use Rattle.driver_laws.specs.Doings.{Taken, HandedNone, HandedOne, CellDid, AnswersNothing, AnswersBell, CellsDid, DidBy, IsTakenWhereHeld, IsTakenWhereEven, HasNumbers}
+use Rattle.driver_laws.specs.Doings.{Taken, HandedNone, CellDid, AnswersNothing, CellsDid, DidBy, IsTakenWhereHeld, IsTakenWhereEven, HasNumbers}
 
 -- Nothing was handed so far: three cells that were left alone, the answer and the numbers.
 record Near (taken : Taken) (answered : ℕ) (v0 : Side) (d : Driver) (v : Side) : Type 0 where

@@ -84,7 +84,7 @@ TurnDid = (setup : Setup) (words : Words) (driver : Driver) (side : Side) (taken
     → HasNumbers driver
     → IsTakenWhereHeld taken driver side → IsTakenWhereEven taken words side
     → DidBy setup words.bell driver.answered taken side
-        (turn_of setup words (record { driver = driver; side = side }))
+    (turn_of setup words (record { driver = driver; side = side }))
 
 -- a turn gives no sample back
 abbrev pub TurnGoesOn : Type 0

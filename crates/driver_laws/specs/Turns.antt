@@ -1,7 +1,7 @@
 -- The laws of a turn: it keeps the invariant, makes few calls, and lowers the room of its side by
 -- just what it hands.
 use Rattle.std.specs.Prelude.{◌≡◌, ℕ, ◌+◌, ◌*◌, ◌%◌, ◌≤◌, false, length, Option, Some, None, MatchOption, IsSomeAnd}
-use Rattle.driver_model.specs.Sides.{Slot, Room, Side, HasRoomFor, is_even, new_side}
+use Rattle.driver_model.specs.Sides.{Slot, Room, Side, HasRoomFor, room_for, is_even, new_side}
 use Rattle.driver_model.specs.Handover.{side_poll_buffer, side_poll_table, side_called}
 use Rattle.driver_model.specs.Driver.{Setup, Driver, World, Two, Words, Turned, turn_of, new_driver}
 use Rattle.driver_model.specs.Invariant.{IsSetup, DriverInvariant, entries_of, table_entries, active_entries}
@@ -77,8 +77,8 @@ RoomFalls = (setup : Setup) (words : Words) (driver : Driver) (side : Side)
 abbrev pub RoomIsEnough : Type 0
 RoomIsEnough = (setup : Setup) (driver : Driver) (side : Side) (room : Room) (requests : ℕ)
     → DriverInvariant setup driver side
-    → room.hands + hands_in side ≡ length setup.samples + 2 * requests + 2
-    → room.entries + entries_handed side ≡ length setup.samples + 1
+    → room.hands + hands_in side ≡ (room_for (length setup.samples) requests).hands
+    → room.entries + entries_handed side ≡ (room_for (length setup.samples) requests).entries
     → driver.answered ≤ 2 * requests
     → HasRoomForTurn driver (Some room)
 

@@ -1,6 +1,6 @@
 -- A side is what lies between a driver and the daemon: the three cells (buffers 0 and 1, and the
 -- table) and the bell. Here is what the driver's calls change of it, and what they make of it.
-use Rattle.std.specs.Prelude.{ℕ, ◌+◌, ◌-◌, ◌%◌, ◌≤◌, ◌==◌, Bool, false, if◌then◌else◌, List, [], ◌∷◌, ◌++◌, length, Option, Some, None, IfSome}
+use Rattle.std.specs.Prelude.{ℕ, ◌+◌, ◌-◌, ◌*◌, ◌%◌, ◌≤◌, ◌==◌, Bool, false, if◌then◌else◌, List, [], ◌∷◌, ◌++◌, length, Option, Some, None, IfSome}
 use Rattle.sample_key.specs.Sent.{Sent}
 
 -- one cell as the driver sees it
@@ -55,11 +55,20 @@ slot_looked slot word =
 abbrev pub slot_handed : Slot → Sent → Slot
 slot_handed slot batch = record slot { handed = slot.handed ++ batch ∷ []; holds = false }
 
--- what may still be handed after this batch
+-- the room after this batch was handed
+abbrev pub room_less : Room → Sent → Room
+room_less room batch =
+    record { hands = room.hands - 1; entries = room.entries - length batch.entries }
+
+-- what may still be handed after this batch, where the side tells it
 abbrev pub room_after : Option Room → Sent → Option Room
 room_after None batch = None
-room_after (Some room) batch =
-    Some (record { hands = room.hands - 1; entries = room.entries - length batch.entries })
+room_after (Some room) batch = Some (room_less room batch)
+
+-- the room of a side that is made for so many samples and so many requests
+abbrev pub room_for : ℕ → ℕ → Room
+room_for samples requests =
+    record { hands = samples + 2 * requests + 2; entries = samples + 1 }
 
 -- there is room for so many hands more, with so many entries together, where the side tells its
 -- room

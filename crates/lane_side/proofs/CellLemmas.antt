@@ -5,10 +5,10 @@ use Rattle.sample_key.specs.Sent.{Sent}
 use Rattle.sample_key.specs.declared.batches.Parcel.{Parcel}
 use Rattle.driver_model.specs.Sides.{is_even}
 use Rattle.turn_cell.specs.Parcels.{MatchLook, MatchPoll}
-use Rattle.lane_side.specs.Cells.{is_drivers, is_daemons, after_look, look_of, after_poll, poll_of, cell_of}
+use Rattle.lane_side.specs.Cells.{is_drivers, is_daemons, after_look, look_of, poll_of, cell_of}
 use Rattle.lane_side.specs.Plain.{handed_in, without_last, taken_in, StateIs, IsCell}
-use Rattle.lane_side.specs.declared.cells.State.{State}
-use Rattle.lane_side.specs.declared.cells.State.TheVariants.{AtHome, WithDriver, Posted, WithDaemon}
+use Rattle.lane_side.specs.declared.cells.Holder.{Holder}
+use Rattle.lane_side.specs.declared.cells.Holder.TheVariants.{AtHome, WithDriver, Posted, WithDaemon}
 use Rattle.lane_side.specs.declared.cells.Cell.{Cell}
 
 -- the word of a value at home is even
@@ -49,7 +49,7 @@ pub all_but : (hs front : List Sent) (b : Sent) → hs ≡ front ++ b ∷ [] →
 all_but hs front b e = e ∙ ap (λ (z : List Sent). z ++ b ∷ []) (sym (ap without_last e ∙ without-push front b))
 
 -- what a look finds at a cell
-pub record LookFinds {B : Type 0} (hs : List Sent) (home : B → Type 0) (h g : ℕ) (s : State B) : Type 0 where
+pub record LookFinds {B : Type 0} (hs : List Sent) (home : B → Type 0) (h g : ℕ) (s : Holder B) : Type 0 where
   pub holds : is_drivers (after_look s) ≡ is_even (h + g)
   pub taken : taken_in hs (after_look s) ≡ taken_in hs s
   pub far : is_daemons (after_look s) ≡ is_daemons s
@@ -57,7 +57,7 @@ pub record LookFinds {B : Type 0} (hs : List Sent) (home : B → Type 0) (h g : 
   pub cause : MatchLook (look_of (h + g) s) (λ x. ((h + g) % 2 ≡ 0) × home x) (λ w. (w ≡ h + g) × ((h + g) % 2 ≡ 1) × (h + g + 1 ≡ 2 * length hs))
 
 -- a cell was looked at
-pub look_cell : {B : Type 0} (hs : List Sent) (sent : Parcel B → Sent) (home : B → Type 0) (posted : Parcel B → Type 0) (gone : Type 0) (h g : ℕ) (s : State B)
+pub look_cell : {B : Type 0} (hs : List Sent) (sent : Parcel B → Sent) (home : B → Type 0) (posted : Parcel B → Type 0) (gone : Type 0) (h g : ℕ) (s : Holder B)
     → is_drivers s ≡ false → IsCell hs sent home posted gone (cell_of h g s) → IsCell hs sent home posted gone (cell_of h g (after_look s)) × LookFinds hs home h g s
 look_cell hs sent home posted gone h g (AtHome x) free i = (
   record { hands = i.hands; bound = i.bound; state = i.state.0 },
@@ -86,14 +86,14 @@ look_cell hs sent home posted gone h g WithDaemon free i = (
 look_cell hs sent home posted gone h g WithDriver free i = cc
 
 -- what a poll finds at a cell
-pub record PollFinds {B : Type 0} (hs : List Sent) (sent : Parcel B → Sent) (posted : Parcel B → Type 0) (h g : ℕ) (s : State B) : Type 0 where
+pub record PollFinds {B : Type 0} (hs : List Sent) (sent : Parcel B → Sent) (posted : Parcel B → Type 0) (h g : ℕ) (s : Holder B) : Type 0 where
   pub told : h + g ≡ length hs + g
   pub cause : MatchPoll (poll_of (h + g) s)
       (λ q. ((h + g) % 2 ≡ 1) × posted q × ((front : List Sent) × (hs ≡ front ++ sent q ∷ [])) × (hs ≡ taken_in hs s ++ sent q ∷ []))
       (λ w. (w ≡ h + g) × ((h + g) % 2 ≡ 0))
 
 -- a cell was polled
-pub poll_cell : {B : Type 0} (hs : List Sent) (sent : Parcel B → Sent) (home : B → Type 0) (posted : Parcel B → Type 0) (gone : Type 0) (h g : ℕ) (s : State B)
+pub poll_cell : {B : Type 0} (hs : List Sent) (sent : Parcel B → Sent) (home : B → Type 0) (posted : Parcel B → Type 0) (gone : Type 0) (h g : ℕ) (s : Holder B)
     → is_daemons s ≡ false → IsCell hs sent home posted gone (cell_of h g s) → PollFinds hs sent posted h g s
 poll_cell hs sent home posted gone h g (AtHome x) free i = record { told = omega (arith, i.hands); cause = (refl, home_word h g i.state.0) }
 poll_cell hs sent home posted gone h g WithDriver free i = record { told = omega (arith, i.hands); cause = (refl, home_word h g i.state) }
@@ -105,22 +105,22 @@ poll_cell hs sent home posted gone h g WithDaemon free i = cc
 
 -- a cell was handed: the facts of its values may change with it
 pub hand_cell : {B : Type 0} (hs new : List Sent) (sent : Parcel B → Sent) (home home2 : B → Type 0) (posted posted2 : Parcel B → Type 0) (gone gone2 : Type 0) (c : Cell B) (q : Parcel B)
-    → is_drivers c.state ≡ true → length hs < 2 ^ 62 → posted2 q → new ≡ hs ++ sent q ∷ [] → IsCell hs sent home posted gone c
+    → is_drivers c.holder ≡ true → length hs < 2 ^ 62 → posted2 q → new ≡ hs ++ sent q ∷ [] → IsCell hs sent home posted gone c
     → IsCell new sent home2 posted2 gone2 (cell_of (c.hands + 1) c.given (Posted q))
 hand_cell {B = B} hs new sent home home2 posted posted2 gone gone2 c q holds few keeps e i = record {
   hands = omega (arith, i.hands, ap (λ (z : List Sent). length z) e, length-append hs (sent q ∷ []));
   bound = omega (arith, few, i.hands);
-  state = (omega (arith, given_home c.hands c.given c.state holds i.state), keeps, (hs, e));
+  state = (omega (arith, given_home c.hands c.given c.holder holds i.state), keeps, (hs, e));
 }
   where
-    given_home : (h g : ℕ) (s : State B) → is_drivers s ≡ true → StateIs hs sent home posted gone h g s → g ≡ h
+    given_home : (h g : ℕ) (s : Holder B) → is_drivers s ≡ true → StateIs hs sent home posted gone h g s → g ≡ h
     given_home h g (AtHome x) holds i = cc
     given_home h g WithDriver holds i = i
     given_home h g (Posted p) holds i = cc
     given_home h g WithDaemon holds i = cc
 
 -- a cell that was handed, as the daemon sees it
-pub hand_far : {B : Type 0} (hs new : List Sent) (s : State B) (b : Sent) → is_drivers s ≡ true → new ≡ hs ++ b ∷ [] → (without_last new ≡ taken_in hs s) × (false ≡ is_daemons s)
+pub hand_far : {B : Type 0} (hs new : List Sent) (s : Holder B) (b : Sent) → is_drivers s ≡ true → new ≡ hs ++ b ∷ [] → (without_last new ≡ taken_in hs s) × (false ≡ is_daemons s)
 hand_far hs new (AtHome x) b holds e = cc
 hand_far hs new WithDriver b holds e = (ap without_last e ∙ without-push hs b, refl)
 hand_far hs new (Posted q) b holds e = cc
@@ -139,23 +139,23 @@ along_cell hs new sent home posted gone c e i = subst (λ (z : List Sent). IsCel
 -- a cell of which the facts of the parcels that wait change
 pub later_cell : {B : Type 0} (hs : List Sent) (sent : Parcel B → Sent) (home : B → Type 0) (posted posted2 : Parcel B → Type 0) (gone : Type 0) (c : Cell B)
     → ((q : Parcel B) → posted q → posted2 q) → IsCell hs sent home posted gone c → IsCell hs sent home posted2 gone c
-later_cell {B = B} hs sent home posted posted2 gone c f i = record { hands = i.hands; bound = i.bound; state = state_map c.hands c.given c.state i.state }
+later_cell {B = B} hs sent home posted posted2 gone c f i = record { hands = i.hands; bound = i.bound; state = state_map c.hands c.given c.holder i.state }
   where
-    state_map : (h g : ℕ) (s : State B) → StateIs hs sent home posted gone h g s → StateIs hs sent home posted2 gone h g s
+    state_map : (h g : ℕ) (s : Holder B) → StateIs hs sent home posted gone h g s → StateIs hs sent home posted2 gone h g s
     state_map h g (AtHome x) i = i
     state_map h g WithDriver i = i
     state_map h g (Posted q) i = (i.0, f q i.1, i.2)
     state_map h g WithDaemon i = i
 
 -- whose value it is
-pub daemons_state : {B : Type 0} (s : State B) → is_daemons s ≡ true → s ≡ WithDaemon
+pub daemons_state : {B : Type 0} (s : Holder B) → is_daemons s ≡ true → s ≡ WithDaemon
 daemons_state (AtHome x) h = cc
 daemons_state WithDriver h = cc
 daemons_state (Posted q) h = cc
 daemons_state WithDaemon h = refl
 
 -- the word of a cell fits
-pub word_fits : {B : Type 0} (hs : List Sent) (sent : Parcel B → Sent) (home : B → Type 0) (posted : Parcel B → Type 0) (gone : Type 0) (h g : ℕ) (s : State B)
+pub word_fits : {B : Type 0} (hs : List Sent) (sent : Parcel B → Sent) (home : B → Type 0) (posted : Parcel B → Type 0) (gone : Type 0) (h g : ℕ) (s : Holder B)
     → h ≤ 2 ^ 62 → StateIs hs sent home posted gone h g s → (h + g ≤ 2 ^ 63) × (g ≤ 2 ^ 62)
 word_fits hs sent home posted gone h g (AtHome x) l i = (omega (arith, i.0), omega (arith, i.0))
 word_fits hs sent home posted gone h g WithDriver l i = (omega (arith, i), omega (arith, i))

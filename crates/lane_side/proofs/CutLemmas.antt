@@ -4,22 +4,22 @@ use Rattle.sample_key.specs.Counted.{Counted}
 use Rattle.sample_key.specs.Headers.{Header}
 use Rattle.sample_key.specs.Sent.{Sent}
 use Rattle.lane_side.specs.Cuts.{cut, counts_of}
-use Rattle.lane_side.specs.declared.history.Head.{Head}
+use Rattle.lane_side.specs.declared.history.BatchHead.{BatchHead}
 
 -- a head of so many entries
-abbrev pub head : Header → ℕ → Head
+abbrev pub head : Header → ℕ → BatchHead
 head h n = record { note = h; count = n }
 
 -- a batch of these entries
 abbrev pub batch : Header → List Counted → Sent
 batch h es = record { note = h; entries = es }
 
-counts-push : (hs : List Head) (h : Head) → counts_of (hs ++ h ∷ []) ≡ counts_of hs + h.count
+counts-push : (hs : List BatchHead) (h : BatchHead) → counts_of (hs ++ h ∷ []) ≡ counts_of hs + h.count
 counts-push [] h = omega arith
 counts-push (g ∷ hs) h = omega (arith, counts-push hs h)
 
 -- one batch more at the end
-cut-push : (hs : List Head) (es fs : List Counted) (note : Header) → counts_of hs ≡ length es
+cut-push : (hs : List BatchHead) (es fs : List Counted) (note : Header) → counts_of hs ≡ length es
     → cut (hs ++ head note (length fs) ∷ []) (es ++ fs) ≡ cut hs es ++ batch note fs ∷ []
 cut-push [] [] fs note h = ap (λ (z : List Counted). batch note z ∷ []) (take_all (length fs) fs (omega arith))
 cut-push [] (e ∷ es) fs note h = absurd (omega (arith, h))
@@ -30,7 +30,7 @@ cut-push (g ∷ hs) es fs note h =
     (ap {B = List Sent} (λ (z : List Sent). batch g.note (take g.count es) ∷ z) (cut-push hs (drop g.count es) fs note r))
 
 -- what a history keeps when a batch is pushed
-pub pushed_in : (hs gs : List Head) (es ds fs : List Counted) (note : Header) (n hands left hc ec hd ed : ℕ) → gs ≡ hs ++ head note n ∷ [] → ds ≡ es ++ fs
+pub pushed_in : (hs gs : List BatchHead) (es ds fs : List Counted) (note : Header) (n hands left hc ec hd ed : ℕ) → gs ≡ hs ++ head note n ∷ [] → ds ≡ es ++ fs
     → n ≡ length fs → 1 ≤ hands → length fs ≤ left → counts_of hs ≡ length es → length hs + hands ≤ hc → length es + left ≤ ec → hc ≤ hd → ec ≤ ed
     → (counts_of gs ≡ length ds) × (length gs + (hands - 1) ≤ hd) × (length ds + (left - n) ≤ ed)
 pushed_in hs gs es ds fs note n hands left hc ec hd ed g d e some few c h l ch cl =
@@ -40,10 +40,10 @@ pushed_in hs gs es ds fs note n hands left hc ec hd ed g d e some few c h l ch c
     (omega (arith, cg, ld, c, e), omega (arith, lg, h, ch, some), omega (arith, ld, l, cl, e, few))
 
 -- and how it is cut then
-pub pushed_cut : (hs gs : List Head) (es ds fs : List Counted) (note : Header) (n : ℕ) → gs ≡ hs ++ head note n ∷ [] → ds ≡ es ++ fs → n ≡ length fs → counts_of hs ≡ length es
+pub pushed_cut : (hs gs : List BatchHead) (es ds fs : List Counted) (note : Header) (n : ℕ) → gs ≡ hs ++ head note n ∷ [] → ds ≡ es ++ fs → n ≡ length fs → counts_of hs ≡ length es
     → cut gs ds ≡ cut hs es ++ batch note fs ∷ []
 pushed_cut hs gs es ds fs note n g d e c =
-    ap (λ (z : List Head). cut z ds) (g ∙ ap (λ (m : ℕ). hs ++ head note m ∷ []) e) ∙ ap (λ (z : List Counted). cut (hs ++ head note (length fs) ∷ []) z) d ∙ cut-push hs es fs note c
+    ap (λ (z : List BatchHead). cut z ds) (g ∙ ap (λ (m : ℕ). hs ++ head note m ∷ []) e) ∙ ap (λ (z : List Counted). cut (hs ++ head note (length fs) ∷ []) z) d ∙ cut-push hs es fs note c
 
 -- how many entries were copied
 pub copied : (es ds fs : List Counted) (before after m n : ℕ) → ds ≡ es ++ fs → before ≡ m → after ≡ n → m ≡ length es → n ≡ length ds → after - before ≡ length fs

@@ -1,12 +1,11 @@
 -- Every call of the two traits keeps the handover of the cells and the soundness of the bell.
-use Rattle.std.proofs.Common.{◌≡◌, ℕ, zero, suc, ◌+◌, ◌%◌, ◌^◌, ◌≤◌, List, [], ◌∷◌, ◌++◌, length, refl, sym, ◌∙◌, ap, subst, arith, inl, inr, Bool, true, false, Some, None, Option, length-append, eqb-true}
+use Rattle.std.proofs.Common.{◌≡◌, ℕ, zero, suc, ◌+◌, ◌%◌, ◌^◌, ◌≤◌, List, [], ◌∷◌, ◌++◌, length, refl, sym, ◌∙◌, ap, subst, arith, inl, inr, true, false, Some, None, Option, length-append, eqb-true}
 use Rattle.std.specs.Prelude.{IfSome}
-use Rattle.sample_key.specs.Headers.{Header}
 use Rattle.sample_key.specs.Sent.{Sent}
 use Rattle.sample_key.specs.declared.batches.Parcel.{Parcel}
 use Rattle.driver_model.specs.Table.{Table}
-use Rattle.driver_model.specs.Sides.{Slot, Room, Side, is_even, slot_of, slot_looked, slot_handed, new_side, new_slot, side_hear, side_look_buffer, side_look_table, side_hand_buffer, side_hand_table}
-use Rattle.driver_model.specs.Handover.{FarSlot, Given, FarSide, IsHandover, IsBell, NeverFallsFrom, far_slot_of, far_slot_took, far_slot_gave, far_took_buffer, far_took_table, far_gave_buffer, far_gave_table, far_rang, given_buffer, given_table, WasRung, new_far, new_far_slot, none_given, last_from, rung_of, side_called, side_poll_buffer, side_poll_table, slot_polled}
+use Rattle.driver_model.specs.Sides.{Slot, Room, Side, slot_of, slot_looked, slot_handed, new_side, new_slot, side_hear, side_look_buffer, side_look_table, side_hand_buffer, side_hand_table}
+use Rattle.driver_model.specs.Handover.{FarSlot, Given, FarSide, far_slot_of, far_slot_took, far_slot_gave, far_took_buffer, far_took_table, far_gave_buffer, far_gave_table, far_rang, given_buffer, given_table, WasRung, new_far, new_far_slot, none_given, rung_of, side_called, side_poll_buffer, side_poll_table, slot_polled}
 use Rattle.driver_model.specs.Runs.{word_of}
 use Rattle.overflow_pair.specs.Contents.{Contents}
 use Rattle.lane_side.specs.Fixed.{Fixed}

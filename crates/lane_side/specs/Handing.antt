@@ -1,7 +1,6 @@
 -- The handover over a whole side: what its cells and its bell keep, and that every call of the two
 -- traits keeps it.
 use Rattle.std.specs.Prelude.{◌≡◌, ℕ, ◌%◌, ◌^◌, ◌≤◌, true, false, ◌∷◌, ◌++◌, [], Option, Some, IfSome}
-use Rattle.sample_key.specs.Headers.{Header}
 use Rattle.sample_key.specs.Sent.{Sent}
 use Rattle.sample_key.specs.declared.batches.Parcel.{Parcel}
 use Rattle.driver_model.specs.Table.{Table}

@@ -1,6 +1,6 @@
 pub mod Fixed
 pub mod Calls
-pub mod Kept
+pub mod HandedSoFar
 pub mod Cuts
 pub mod Cells
 pub mod Tallies

@@ -1,5 +1,5 @@
 -- A plain side: what its fields say to the two traits, and what it keeps between its calls.
-use Rattle.std.specs.Prelude.{◌≡◌, ℕ, ◌+◌, ◌^◌, ◌≤◌, ◌==◌, true, false, List, [], ◌∷◌, ◌++◌, length, filter, Some, None}
+use Rattle.std.specs.Prelude.{◌≡◌, ℕ, ◌+◌, ◌^◌, ◌≤◌, ◌==◌, List, [], ◌∷◌, ◌++◌, length, filter, Some}
 use Rattle.sample_key.specs.Sent.{Sent}
 use Rattle.sample_key.specs.declared.keys.Marked.{Marked}
 use Rattle.sample_key.specs.declared.batches.Parcel.{Parcel}
@@ -10,11 +10,11 @@ use Rattle.driver_model.specs.Handover.{FarSlot, Given, FarSide, NeverFallsFrom,
 use Rattle.overflow_pair.specs.Contents.{Contents, empty_buffer}
 use Rattle.lane_side.specs.Fixed.{Fixed, plain_fixed}
 use Rattle.lane_side.specs.Calls.{KeepsNote, buffer_sent, table_sent}
-use Rattle.lane_side.specs.Kept.{Kept}
+use Rattle.lane_side.specs.HandedSoFar.{HandedSoFar}
 use Rattle.lane_side.specs.Cells.{is_drivers, is_daemons}
 use Rattle.lane_side.specs.Tallies.{Tallies}
-use Rattle.lane_side.specs.declared.cells.State.{State}
-use Rattle.lane_side.specs.declared.cells.State.TheVariants.{AtHome, WithDriver, Posted, WithDaemon}
+use Rattle.lane_side.specs.declared.cells.Holder.{Holder}
+use Rattle.lane_side.specs.declared.cells.Holder.TheVariants.{AtHome, WithDriver, Posted, WithDaemon}
 use Rattle.lane_side.specs.declared.cells.Cell.{Cell}
 
 -- a plain side as contracts see it: what the two traits speak of
@@ -24,7 +24,7 @@ pub record Plain : Type 0 where
   pub fixed : Fixed
 
 -- what a plain side is made of
-pub record Parts : Type 0 where
+pub record PlainParts : Type 0 where
   pub cpu : ℕ
   pub samples : List Marked
   pub buckets : ℕ
@@ -33,7 +33,7 @@ pub record Parts : Type 0 where
   pub second : Cell Contents
   pub third : Cell Table
   pub bell : ℕ
-  pub kept : Kept
+  pub history : HandedSoFar
   pub tallies : Tallies
 
 -- the batches of one cell
@@ -47,55 +47,55 @@ without_last (batch ∷ []) = []
 without_last (batch ∷ next ∷ batches) = batch ∷ without_last (next ∷ batches)
 
 -- the batches that were taken of those that were handed: the last one may still wait
-abbrev pub taken_in : {B : Type 0} → List Sent → State B → List Sent
+abbrev pub taken_in : {B : Type 0} → List Sent → Holder B → List Sent
 taken_in handed (AtHome value) = handed
 taken_in handed WithDriver = handed
 taken_in handed (Posted parcel) = without_last handed
 taken_in handed WithDaemon = handed
 
 -- a cell as the driver sees it, of which these batches were handed
-abbrev pub slot_in : {B : Type 0} → List Sent → State B → ℕ → ℕ → Slot
+abbrev pub slot_in : {B : Type 0} → List Sent → Holder B → ℕ → ℕ → Slot
 slot_in handed state tries read =
     record { handed = handed; holds = is_drivers state; tries = tries; read = read }
 
 -- and as the daemon sees it
-abbrev pub far_slot_in : {B : Type 0} → List Sent → State B → FarSlot
+abbrev pub far_slot_in : {B : Type 0} → List Sent → Holder B → FarSlot
 far_slot_in handed state =
     record { taken = taken_in handed state; holds = is_daemons state }
 
 -- the batches of a cell of a plain side
-abbrev pub handed_of : Parts → ℕ → List Sent
-handed_of parts cell = handed_in cell parts.kept.sent
+abbrev pub handed_of : PlainParts → ℕ → List Sent
+handed_of parts cell = handed_in cell parts.history.sent
 
 -- the driver's half
-abbrev pub seen_of : Parts → Side
+abbrev pub seen_of : PlainParts → Side
 seen_of parts = record {
   first =
-      slot_in (handed_of parts 0) parts.first.state parts.tallies.tries0 parts.tallies.read0;
+      slot_in (handed_of parts 0) parts.first.holder parts.tallies.tries0 parts.tallies.read0;
   second =
-      slot_in (handed_of parts 1) parts.second.state parts.tallies.tries1 parts.tallies.read1;
+      slot_in (handed_of parts 1) parts.second.holder parts.tallies.tries1 parts.tallies.read1;
   third =
-      slot_in (handed_of parts 2) parts.third.state parts.tallies.tries2 parts.tallies.read2;
+      slot_in (handed_of parts 2) parts.third.holder parts.tallies.tries2 parts.tallies.read2;
   steps = parts.tallies.steps;
   hears = parts.tallies.hears;
   heard = parts.tallies.heard;
-  room = Some parts.kept.room;
+  room = Some parts.history.room;
   buckets = parts.buckets;
   buffer = parts.buffer;
   turn = parts.tallies.turn;
 }
 
 -- how often the values were given back
-abbrev pub given_in : Parts → Given
+abbrev pub given_in : PlainParts → Given
 given_in parts =
     record { first = parts.first.given; second = parts.second.given; third = parts.third.given }
 
 -- the daemon's half
-abbrev pub far_of : Parts → FarSide
+abbrev pub far_of : PlainParts → FarSide
 far_of parts = record {
-  first = far_slot_in (handed_of parts 0) parts.first.state;
-  second = far_slot_in (handed_of parts 1) parts.second.state;
-  third = far_slot_in (handed_of parts 2) parts.third.state;
+  first = far_slot_in (handed_of parts 0) parts.first.holder;
+  second = far_slot_in (handed_of parts 1) parts.second.holder;
+  third = far_slot_in (handed_of parts 2) parts.third.holder;
   turn = parts.tallies.far_turn;
   given = Some (given_in parts);
   rungs = parts.tallies.rungs;
@@ -103,17 +103,17 @@ far_of parts = record {
 }
 
 -- what no call changes of a plain side
-abbrev pub fixed_of : Parts → Fixed
+abbrev pub fixed_of : PlainParts → Fixed
 fixed_of parts = plain_fixed parts.cpu parts.samples
 
 -- all that the traits speak of
-abbrev pub plain_of : Parts → Plain
+abbrev pub plain_of : PlainParts → Plain
 plain_of parts = record { seen = seen_of parts; far = far_of parts; fixed = fixed_of parts }
 
 -- The facts of a cell, by where its value is: `home` holds of a value at home, `posted` of a parcel
 -- that waits, and `gone` while the daemon holds the value.
 abbrev pub StateIs : {B : Type 0} → List Sent → (Parcel B → Sent) → (B → Type 0)
-    → (Parcel B → Type 0) → Type 0 → ℕ → ℕ → State B → Type 0
+    → (Parcel B → Type 0) → Type 0 → ℕ → ℕ → Holder B → Type 0
 StateIs handed sent home posted gone hands given (AtHome value) = (given ≡ hands) × home value
 StateIs handed sent home posted gone hands given WithDriver = given ≡ hands
 StateIs handed sent home posted gone hands given (Posted parcel) =
@@ -126,7 +126,7 @@ pub record IsCell {B : Type 0} (handed : List Sent) (sent : Parcel B → Sent) (
     (posted : Parcel B → Type 0) (gone : Type 0) (cell : Cell B) : Type 0 where
   pub hands : cell.hands ≡ length handed
   pub bound : cell.hands ≤ 2 ^ 62
-  pub state : StateIs handed sent home posted gone cell.hands cell.given cell.state
+  pub state : StateIs handed sent home posted gone cell.hands cell.given cell.holder
 
 -- a buffer at home is empty and of its made size
 abbrev pub BufferHome : ℕ → Contents → Type 0
@@ -150,22 +150,22 @@ TablePosted fixed buckets rungs turn parcel =
     × (length parcel.body.rows ≡ buckets) × (parcel.body.turn ≡ turn)
 
 -- a cell of a buffer of a plain side
-abbrev pub IsBufferCell : ℕ → Parts → Cell Contents → Type 0
+abbrev pub IsBufferCell : ℕ → PlainParts → Cell Contents → Type 0
 IsBufferCell number parts cell =
-    IsCell (handed_in number parts.kept.sent) buffer_sent (BufferHome parts.buffer)
-        (BufferPosted number (plain_fixed parts.cpu parts.samples) parts.buffer parts.tallies.rungs)
-        (Unit {0}) cell
+    IsCell (handed_in number parts.history.sent) buffer_sent (BufferHome parts.buffer)
+    (BufferPosted number (plain_fixed parts.cpu parts.samples) parts.buffer parts.tallies.rungs)
+    (Unit {0}) cell
 
 -- the cell of the table of a plain side
-abbrev pub IsTableCell : Parts → Cell Table → Type 0
+abbrev pub IsTableCell : PlainParts → Cell Table → Type 0
 IsTableCell parts cell =
-    IsCell (handed_in 2 parts.kept.sent) table_sent (TableHome parts.buckets parts.tallies.turn)
-        (TablePosted (plain_fixed parts.cpu parts.samples)
-            parts.buckets parts.tallies.rungs parts.tallies.turn)
-        (parts.tallies.far_turn ≡ parts.tallies.turn) cell
+    IsCell (handed_in 2 parts.history.sent) table_sent (TableHome parts.buckets parts.tallies.turn)
+    (TablePosted (plain_fixed parts.cpu parts.samples)
+    parts.buckets parts.tallies.rungs parts.tallies.turn)
+    (parts.tallies.far_turn ≡ parts.tallies.turn) cell
 
 -- a plain side keeps this between its calls
-pub record IsPlain (parts : Parts) : Type 0 where
+pub record IsPlain (parts : PlainParts) : Type 0 where
   pub first : IsBufferCell 0 parts parts.first
   pub second : IsBufferCell 1 parts parts.second
   pub third : IsTableCell parts parts.third

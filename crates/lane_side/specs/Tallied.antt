@@ -1,20 +1,27 @@
+-- What each call adds to those numbers.
 use Rattle.std.specs.Prelude.{ℕ, ◌+◌, ◌==◌, if◌then◌else◌, [], ◌∷◌, ◌++◌}
 use Rattle.lane_side.specs.Tallies.{Tallies}
-use Rattle.lane_side.specs.declared.counts.Call.{Call}
-use Rattle.lane_side.specs.declared.counts.Call.TheVariants.{Hear, Try, Pass, Ring, Handed, Taken}
+use Rattle.lane_side.specs.declared.call_log.Call.{Call}
+use Rattle.lane_side.specs.declared.call_log.Call.TheVariants.{Hear, Try, Pass, Ring, Handed, Taken}
+
+-- the numbers after one call more
+abbrev pub stepped : Tallies → Tallies
+stepped tallies = record tallies { steps = tallies.steps + 1 }
 
 -- the numbers after a cell was looked at or polled with this word
 abbrev pub tried : Tallies → ℕ → ℕ → Tallies
-tried t cell word =
-    if cell == 0 then record t { steps = t.steps + 1; tries0 = t.tries0 + 1; read0 = word }
-    else if cell == 1 then record t { steps = t.steps + 1; tries1 = t.tries1 + 1; read1 = word }
-    else record t { steps = t.steps + 1; tries2 = t.tries2 + 1; read2 = word }
+tried tallies cell word =
+    if cell == 0 then record (stepped tallies) { tries0 = tallies.tries0 + 1; read0 = word }
+    else if cell == 1 then record (stepped tallies) { tries1 = tallies.tries1 + 1; read1 = word }
+    else record (stepped tallies) { tries2 = tallies.tries2 + 1; read2 = word }
 
 -- the numbers after a call
 abbrev pub tallied : Tallies → Call → Tallies
-tallied t (Hear w) = record t { steps = t.steps + 1; hears = t.hears + 1; heard = w }
-tallied t (Try cell word) = tried t cell word
-tallied t Pass = record t { steps = t.steps + 1 }
-tallied t (Ring w) = record t { steps = t.steps + 1; rung_at = t.tries0; rungs = t.rungs ++ w ∷ [] }
-tallied t (Handed s) = record t { turn = s.value.turn }
-tallied t (Taken s) = record t { far_turn = s.value.turn }
+tallied tallies (Hear bell) =
+    record (stepped tallies) { hears = tallies.hears + 1; heard = bell }
+tallied tallies (Try cell word) = tried tallies cell word
+tallied tallies Pass = stepped tallies
+tallied tallies (Ring value) =
+    record (stepped tallies) { rung_at = tallies.tries0; rungs = tallies.rungs ++ value ∷ [] }
+tallied tallies (Handed table) = record tallies { turn = table.value.turn }
+tallied tallies (Taken table) = record tallies { far_turn = table.value.turn }

@@ -1,3 +1,4 @@
+-- What was called and read of a plain side, as numbers that take no bytes.
 use Rattle.std.specs.Prelude.{ℕ, List, [], ◌∷◌, slice_index, drop}
 
 -- what was called and read so far
@@ -20,25 +21,31 @@ pub record Tallies : Type 0 where
 
 -- the numbers of a list
 abbrev pub decode : List ℕ → Tallies
-decode ns = record {
-  steps = slice_index ns 0;
-  tries0 = slice_index ns 1;
-  tries1 = slice_index ns 2;
-  tries2 = slice_index ns 3;
-  read0 = slice_index ns 4;
-  read1 = slice_index ns 5;
-  read2 = slice_index ns 6;
-  hears = slice_index ns 7;
-  heard = slice_index ns 8;
-  turn = slice_index ns 9;
-  far_turn = slice_index ns 10;
-  rung_at = slice_index ns 11;
-  rungs = drop 12 ns;
+decode numbers = record {
+  steps = slice_index numbers 0;
+  tries0 = slice_index numbers 1;
+  tries1 = slice_index numbers 2;
+  tries2 = slice_index numbers 3;
+  read0 = slice_index numbers 4;
+  read1 = slice_index numbers 5;
+  read2 = slice_index numbers 6;
+  hears = slice_index numbers 7;
+  heard = slice_index numbers 8;
+  turn = slice_index numbers 9;
+  far_turn = slice_index numbers 10;
+  rung_at = slice_index numbers 11;
+  rungs = drop 12 numbers;
 }
 
 -- as a list of numbers
 abbrev pub encode : Tallies → List ℕ
-encode t = t.steps ∷ t.tries0 ∷ t.tries1 ∷ t.tries2 ∷ t.read0 ∷ t.read1 ∷ t.read2 ∷ t.hears ∷ t.heard ∷ t.turn ∷ t.far_turn ∷ t.rung_at ∷ t.rungs
+encode tallies =
+    tallies.steps
+    ∷ tallies.tries0 ∷ tallies.tries1 ∷ tallies.tries2
+    ∷ tallies.read0 ∷ tallies.read1 ∷ tallies.read2
+    ∷ tallies.hears ∷ tallies.heard
+    ∷ tallies.turn ∷ tallies.far_turn
+    ∷ tallies.rung_at ∷ tallies.rungs
 
 -- nothing was called yet
 abbrev pub no_tallies : Tallies

@@ -1,3 +1,5 @@
+//! What both sides of a driver's cells and bell speak of.
+
 /// What the two sides of a driver's cells and bell speak of. Each member is a value that contracts alone see; a call that
 /// may change one of them says what it makes of it.
 ///

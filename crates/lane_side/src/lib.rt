@@ -3,8 +3,8 @@
 //! `PlainSide` meets both for one thread, and remembers all that was handed.
 #![tactic(auto)]
 
+mod call_log;
 mod cells;
-mod counts;
 mod endpoints;
 mod handovers;
 mod history;
@@ -18,6 +18,3 @@ pub use handovers::{calls_hand_over, plain_sides_hand_over};
 pub use plain::PlainSide;
 pub use sides::{DaemonSide, LaneSide, Poll};
 pub use turn_cell::{Look, PollOf};
-
-#[cfg(test)]
-mod tests;

@@ -1,9 +1,14 @@
-ghost use Rattle.std.specs.Prelude.{◌≡◌, ◌+◌, ◌*◌, ◌≤◌, Some, None, length, true, false, IfOk};
-ghost use Rattle.driver_model.specs.Sides.{new_side};
-ghost use Rattle.driver_model.specs.Handover.{new_far, none_given};
+//! The side for one thread: its fields, what they say to the traits (`plain_of`) and what they keep (`IsPlain`).
 
+ghost use Rattle.std.specs.Prelude.{◌≡◌, ◌+◌, ◌*◌, ◌≤◌, Some, None, length, true, false, IfOk};
+ghost use Rattle.driver_model.specs.Sides.{new_side, room_for};
+ghost use Rattle.driver_model.specs.Handover.{new_far, none_given};
+ghost use Rattle.lane_side.specs.Fixed.{plain_fixed};
+ghost use Rattle.lane_side.specs.declared.plain.TheConstants.{MOST_REQUESTS};
+ghost use Rattle.sample_key.specs.declared.limits.TheConstants.{LAST_CPU, MOST_SAMPLES};
+
+use crate::call_log::CallLog;
 use crate::cells::Cell;
-use crate::counts::Counts;
 use crate::endpoints::Endpoint;
 use crate::history::History;
 use assoc_table::AssocTable;
@@ -12,6 +17,9 @@ use sample_key::Marked;
 use std::alloc::{AllocError, Global};
 use std::marker::Model;
 use std::snapshot::Snapshot;
+
+/// How many requests a side is made for at most: one for each record of a trace, and the close.
+pub const MOST_REQUESTS: usize = 65_537;
 
 /// The cells and the bell of one driver, for one thread. It keeps every batch that was handed, and takes no memory after it
 /// is made.
@@ -27,9 +35,9 @@ pub struct PlainSide {
     pub(crate) third: Cell<AssocTable>,
     // The value rung last.
     pub(crate) bell: u64,
-    pub(crate) kept: History,
+    pub(crate) history: History,
     // What was called and read, which takes no bytes.
-    pub(crate) counts: Counts,
+    pub(crate) log: CallLog,
 }
 
 impl Model for PlainSide {
@@ -65,23 +73,20 @@ impl PlainSide {
         buckets: usize,
         buffer: usize,
     ) -> Result<PlainSide, AllocError>
-        requires cpu { cpu ≤ 15 }
-        requires few { length samples.now.items ≤ 2000000 }
-        requires requests { requests ≤ 65537 }
+        requires cpu { cpu ≤ LAST_CPU }
+        requires few { length samples.now.items ≤ MOST_SAMPLES }
+        requires requests { requests ≤ MOST_REQUESTS }
         requires buckets { (1 ≤ buckets) × (buckets ≤ 4096) }
         requires buffer { (1 ≤ buffer) × (buffer ≤ 8192) }
-        ensures seen { IfOk result (λ s. s.seen ≡ new_side (Some (record { hands = length samples.now.items + 2 * requests + 2; entries = length samples.now.items + 1 })) buckets buffer) }
-        ensures far { IfOk result (λ s. s.far ≡ new_far (Some none_given)) }
-        ensures fixed { IfOk result (λ s. s.fixed ≡ record {
-          cpu = cpu;
-          samples = samples.now.items;
-          even = false;
-          told = true;
-          ends = None;
-        }) }
+        ensures seen { IfOk result (λ side.
+            side.seen
+            ≡ new_side (Some (room_for (length samples.now.items) requests)) buckets buffer) }
+        ensures far { IfOk result (λ side. side.far ≡ new_far (Some none_given)) }
+        ensures fixed { IfOk result (λ side.
+            side.fixed ≡ plain_fixed cpu samples.now.items) }
     {
         let count = samples.len();
-        let kept = History::new(alloc, count + 2 * requests + 2, count + 1)?;
+        let history = History::new(alloc, count + 2 * requests + 2, count + 1)?;
         let first = Cell::new(Buffer::with_capacity(alloc, buffer)?);
         let second = Cell::new(Buffer::with_capacity(alloc, buffer)?);
         let third = Cell::new(AssocTable::new(alloc, buckets)?);
@@ -94,8 +99,8 @@ impl PlainSide {
             second,
             third,
             bell: 0,
-            kept,
-            counts: Counts::new(),
+            history,
+            log: CallLog::new(),
         })
     }
 }

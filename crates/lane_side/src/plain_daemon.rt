@@ -1,4 +1,6 @@
-use crate::counts::Call;
+//! The plain side as the daemon uses it.
+
+use crate::call_log::Call;
 use crate::plain::PlainSide;
 use crate::sides::{DaemonSide, Poll};
 use assoc_table::AssocTable;
@@ -8,24 +10,24 @@ use turn_cell::PollOf;
 
 impl DaemonSide for PlainSide {
     fn ring(&mut self, value: u64) {
-        self.counts.note(Call::Ring(value));
+        self.log.note(Call::Ring(value));
         self.bell = value;
     }
 
     fn poll_buffer(&mut self, b: u8) -> Poll<Buffer> {
         if b == 0 {
             let word = self.first.word();
-            self.counts.note(Call::Try(0, word));
+            self.log.note(Call::Try(0, word));
             self.first.poll(word)
         } else {
             let word = self.second.word();
-            self.counts.note(Call::Try(1, word));
+            self.log.note(Call::Try(1, word));
             self.second.poll(word)
         }
     }
 
     fn return_buffer(&mut self, b: u8, buffer: Buffer) {
-        self.counts.note(Call::Pass);
+        self.log.note(Call::Pass);
         if b == 0 {
             self.first.give_back(buffer);
         } else {
@@ -35,10 +37,10 @@ impl DaemonSide for PlainSide {
 
     fn poll_table(&mut self) -> Poll<AssocTable> {
         let word = self.third.word();
-        self.counts.note(Call::Try(2, word));
+        self.log.note(Call::Try(2, word));
         match self.third.poll(word) {
             PollOf::Parcel(parcel) => {
-                self.counts.note(Call::Taken(Snapshot::of(&parcel.body)));
+                self.log.note(Call::Taken(Snapshot::of(&parcel.body)));
                 PollOf::Parcel(parcel)
             }
             PollOf::Home(word) => PollOf::Home(word),
@@ -46,7 +48,7 @@ impl DaemonSide for PlainSide {
     }
 
     fn return_table(&mut self, table: AssocTable) {
-        self.counts.note(Call::Pass);
+        self.log.note(Call::Pass);
         self.third.give_back(table);
     }
 }

@@ -1,4 +1,6 @@
-use crate::counts::Call;
+//! The plain side as the driver uses it.
+
+use crate::call_log::Call;
 use crate::plain::PlainSide;
 use crate::sides::LaneSide;
 use assoc_table::AssocTable;
@@ -10,25 +12,25 @@ use turn_cell::Look;
 impl LaneSide for PlainSide {
     fn hear(&mut self) -> u64 {
         let value = self.bell;
-        self.counts.note(Call::Hear(value));
+        self.log.note(Call::Hear(value));
         value
     }
 
     fn look_buffer(&mut self, b: u8) -> Look<Buffer> {
         if b == 0 {
             let word = self.first.word();
-            self.counts.note(Call::Try(0, word));
+            self.log.note(Call::Try(0, word));
             self.first.look(word)
         } else {
             let word = self.second.word();
-            self.counts.note(Call::Try(1, word));
+            self.log.note(Call::Try(1, word));
             self.second.look(word)
         }
     }
 
     fn hand_buffer(&mut self, b: u8, parcel: Parcel<Buffer>) {
-        self.kept.push(parcel.note, &parcel.body);
-        self.counts.note(Call::Pass);
+        self.history.push(parcel.note, &parcel.body);
+        self.log.note(Call::Pass);
         if b == 0 {
             self.first.hand(parcel);
         } else {
@@ -38,14 +40,14 @@ impl LaneSide for PlainSide {
 
     fn look_table(&mut self) -> Look<AssocTable> {
         let word = self.third.word();
-        self.counts.note(Call::Try(2, word));
+        self.log.note(Call::Try(2, word));
         self.third.look(word)
     }
 
     fn hand_table(&mut self, parcel: Parcel<AssocTable>) {
-        self.kept.push(parcel.note, &parcel.body);
-        self.counts.note(Call::Pass);
-        self.counts.note(Call::Handed(Snapshot::of(&parcel.body)));
+        self.history.push(parcel.note, &parcel.body);
+        self.log.note(Call::Pass);
+        self.log.note(Call::Handed(Snapshot::of(&parcel.body)));
         self.third.hand(parcel);
     }
 }

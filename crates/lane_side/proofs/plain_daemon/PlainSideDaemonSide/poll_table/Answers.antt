@@ -2,7 +2,7 @@ use Rattle.std.proofs.Common.{◌∙◌, ap}
 use Rattle.lane_side.specs.Tallies.{Tallies}
 use Rattle.lane_side.specs.Tallied.{tallied}
 use Rattle.lane_side.specs.Insides.{parts_of}
-use Rattle.lane_side.specs.declared.counts.Call.TheVariants.{Try}
+use Rattle.lane_side.specs.declared.call_log.Call.TheVariants.{Try}
 use Rattle.driver_model.specs.Table.{Table}
 use Rattle.lane_side.proofs.PlainCalls.{taken_any}
 use Rattle.lane_side.proofs.plain_daemon.PlainSideDaemonSide.poll_table.Goals as goal

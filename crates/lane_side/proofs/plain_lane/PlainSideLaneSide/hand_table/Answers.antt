@@ -2,7 +2,7 @@ use Rattle.std.proofs.Common.{◌∙◌, ap}
 use Rattle.lane_side.specs.Tallies.{Tallies}
 use Rattle.lane_side.specs.Tallied.{tallied}
 use Rattle.lane_side.specs.Insides.{parts_of}
-use Rattle.lane_side.specs.declared.counts.Call.TheVariants.{Pass}
+use Rattle.lane_side.specs.declared.call_log.Call.TheVariants.{Pass}
 use Rattle.driver_model.specs.Table.{Table}
 use Rattle.lane_side.proofs.PlainCalls.{handed_any2}
 use Rattle.lane_side.proofs.plain_lane.PlainSideLaneSide.hand_table.Goals as goal

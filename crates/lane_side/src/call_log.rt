@@ -1,3 +1,5 @@
+//! What was called and read of a plain side. It takes no bytes: contracts alone see it.
+
 ghost use Rattle.std.specs.Prelude.{◌≡◌};
 ghost use Rattle.lane_side.specs.Tallies.{no_tallies};
 ghost use Rattle.lane_side.specs.Tallied.{tallied};
@@ -43,11 +45,11 @@ impl Names<Noted> for Tally {
 
 // What was called and read so far. It takes no bytes: contracts alone see it.
 #[derive(Drop)]
-pub(crate) struct Counts {
+pub(crate) struct CallLog {
     numbers: Tag,
 }
 
-impl Model for Counts {
+impl Model for CallLog {
     ghost use Rattle.lane_side.specs.Tallies.{Tallies, decode};
 
     ghost Value = { Tallies };
@@ -55,11 +57,11 @@ impl Model for Counts {
     ghost view = { λ c. decode c.numbers.numbers };
 }
 
-impl Counts {
-    pub(crate) fn new() -> Counts
+impl CallLog {
+    pub(crate) fn new() -> CallLog
         ensures { result ≡ no_tallies }
     {
-        Counts {
+        CallLog {
             numbers: Tag::empty(),
         }
     }
