@@ -18,13 +18,9 @@ use Rattle.driver_laws.proofs.Loose.{Loose, loose_of, strict_of}
 use Rattle.driver_laws.proofs.Changes.{kept_hear, kept_table_back, kept_table_out, kept_counted, kept_out0, kept_out1, kept_back0, kept_back1}
 use Rattle.driver_laws.proofs.Pushes.{kept_pushed, kept_direct, kept_hand0, kept_hand1}
 use Rattle.driver_laws.proofs.Ends.{kept_lost, closed_by}
-use Rattle.driver_laws.specs.Turns.{AreFairWords}
+use Rattle.driver_laws.specs.Turns.{AreFairWords, KeepsAfter}
 
 -- a turn keeps the invariant: the small changes joined, as the definition of the turn joins them
-
--- what a fact of one result becomes for a turn
-abbrev pub Keeps : Setup → Turned → Type 0
-Keeps u t = DriverInvariant u t.driver t.side
 
 -- a short batch is cut by a table batch also when there is one more
 cut_later : (u : Setup) (x : Sent) (tables : List Sent) (cell : ℕ) (c : Sent) → FullOrCut cell u.size tables c → FullOrCut cell u.size (tables ++ x ∷ []) c
@@ -204,7 +200,7 @@ answer_active u d v w t (Some es) setup size active held here odd above may i =
 
 -- a flush is answered
 answer_kept : (u : Setup) (d : Driver) (v : Side) (w : ℕ) (o : Option Table) → IsSetup u → u.size ≡ v.buffer → d.table ≡ o → w ≡ v.heard → answers_now u d w ≡ true
-    → Loose v.third.handed 1 v.buffer u d v → Keeps u (answer_with u (record { driver = d; side = v }) w o)
+    → Loose v.third.handed 1 v.buffer u d v → KeepsAfter u (answer_with u (record { driver = d; side = v }) w o)
 answer_kept u d v w None setup size held here answers i = strict_of u d v i
 answer_kept u d v w (Some t) setup size held here answers i =
     let p = and_parts (eqb (w % 2) 1 && ltb d.answered w && is_some d.table) (may_answer u d w u.pace) answers in
@@ -257,7 +253,7 @@ write_active u d v s rest es None setup size active held needs left mark i =
 -- no buffer is back: the sample is lost or held
 write_none : (u : Setup) (d : Driver) (v : Side) (s : Marked) (rest : List Marked) (p : Pace) → IsSetup u → u.pace ≡ p → drop d.at u.samples ≡ s ∷ rest → s.mark ≤ v.heard / 2
     → v.first.read % 2 ≡ 1 → v.first.read + 1 ≡ 2 * length v.first.handed → v.second.read % 2 ≡ 1 → v.second.read + 1 ≡ 2 * length v.second.handed
-    → Loose v.third.handed 1 v.buffer u d v → Keeps u (write u (record { driver = d; side = v }) s.key p None)
+    → Loose v.third.handed 1 v.buffer u d v → KeepsAfter u (write u (record { driver = d; side = v }) s.key p None)
 write_none u d v s rest Free setup pace left mark odd0 fair0 odd1 fair1 i =
     strict_of u (lose (record { driver = d; side = v }) s.key).driver v
     (kept_lost v.third.handed 1 v.buffer u d v s rest setup.rising pace left mark odd0 fair0 odd1 fair1 i)
@@ -274,7 +270,7 @@ odd_of w h = elim (cases_eq (w % 2) 0) [ inl e ↦ absurd (both_ways (eqb (w % 2
 
 -- what a turn that writes must keep, from where the buffers were looked for
 abbrev Writes : Setup → Key → World → Type 0
-Writes u k y = Keeps u (write u y k u.pace y.driver.pair.active)
+Writes u k y = KeepsAfter u (write u y k u.pace y.driver.pair.active)
 
 -- both buffers are looked at, buffer 0 first
 look_from0 : (u : Setup) (h : Two) (d : Driver) (v : Side) (s : Marked) (rest : List Marked) → IsSetup u → u.size ≡ v.buffer → AreFairWords v h → d.pair.active ≡ None
@@ -291,7 +287,7 @@ look_from0 u h d v s rest setup size fair none needs left mark i =
     (λ (z : Driver). Writes u s.key (record { driver = z; side = side_look_buffer v1 1 h.second }))
     (λ even. write_active u (activate d 1) (side_look_buffer v1 1 h.second) s rest [] d.table setup size refl refl needs left mark
     (kept_back1 v.third.handed 1 v.buffer u d v1 h.second none even i1))
-    (λ odd1. subst (λ (a : Option (List Counted)). Keeps u (write u (record { driver = d; side = side_look_buffer v1 1 h.second }) s.key u.pace a)) (sym none)
+    (λ odd1. subst (λ (a : Option (List Counted)). KeepsAfter u (write u (record { driver = d; side = side_look_buffer v1 1 h.second }) s.key u.pace a)) (sym none)
     (write_none u d (side_look_buffer v1 1 h.second) s rest u.pace setup refl left mark (odd_of h.first odd0) (fair.0 odd0) (odd_of h.second odd1) (fair.1 odd1)
     (kept_out1 v.third.handed 1 v.buffer u d v1 h.second none odd1 i1))))
 
@@ -310,7 +306,7 @@ look_from1 u h d v s rest setup size fair none needs left mark i =
     (λ (z : Driver). Writes u s.key (record { driver = z; side = side_look_buffer v1 0 h.first }))
     (λ even. write_active u (activate d 0) (side_look_buffer v1 0 h.first) s rest [] d.table setup size refl refl needs left mark
     (kept_back0 v.third.handed 1 v.buffer u d v1 h.first none even i1))
-    (λ odd0. subst (λ (a : Option (List Counted)). Keeps u (write u (record { driver = d; side = side_look_buffer v1 0 h.first }) s.key u.pace a)) (sym none)
+    (λ odd0. subst (λ (a : Option (List Counted)). KeepsAfter u (write u (record { driver = d; side = side_look_buffer v1 0 h.first }) s.key u.pace a)) (sym none)
     (write_none u d (side_look_buffer v1 0 h.first) s rest u.pace setup refl left mark (odd_of h.first odd0) (fair.0 odd0) (odd_of h.second odd1) (fair.1 odd1)
     (kept_out0 v.third.handed 1 v.buffer u d v1 h.first none odd0 i1))))
 
@@ -319,7 +315,7 @@ write_kept : (u : Setup) (h : Two) (d : Driver) (v : Side) (s : Marked) (rest : 
     → d.pair.active ≡ a → needs_write s.key d.table ≡ true → drop d.at u.samples ≡ s ∷ rest → s.mark ≤ v.heard / 2 → Loose v.third.handed 1 v.buffer u d v
     → Writes u s.key (find_buffer h d v a)
 write_kept u h d v s rest (Some es) setup size fair active needs left mark i =
-    subst (λ (a : Option (List Counted)). Keeps u (write u (record { driver = d; side = v }) s.key u.pace a)) (sym active)
+    subst (λ (a : Option (List Counted)). KeepsAfter u (write u (record { driver = d; side = v }) s.key u.pace a)) (sym active)
     (write_active u d v s rest es d.table setup size active refl needs left mark (loosened v.third.handed v.buffer u d v i))
 write_kept u h d v s rest None setup size fair active needs left mark i =
     by_number (λ (b : ℕ). Writes u s.key (look_both h d v b)) d.pair.next i.next
@@ -329,46 +325,46 @@ write_kept u h d v s rest None setup size fair active needs left mark i =
 -- the next sample is due, by where the table is
 sample_kept : (u : Setup) (h : Two) (d : Driver) (v : Side) (s : Marked) (rest : List Marked) (o : Option Table) → IsSetup u → u.size ≡ v.buffer → AreFairWords v h
     → d.table ≡ o → drop d.at u.samples ≡ s ∷ rest → s.mark ≤ v.heard / 2 → Loose v.third.handed 1 v.buffer u d v
-    → needs_write s.key o ≡ false → Keeps u (ends_with (record { driver = take_next d s.key o; side = v }) Took)
+    → needs_write s.key o ≡ false → KeepsAfter u (ends_with (record { driver = take_next d s.key o; side = v }) Took)
 sample_kept u h d v s rest None setup size fair held left mark i needs = cc
 sample_kept u h d v s rest (Some t) setup size fair held left mark i needs =
     strict_of u (take_next d s.key (Some t)) v (kept_counted v.third.handed 1 v.buffer u d v t s rest setup.rising held needs left mark i)
 
 -- the turn goes on with the samples that are left
 next_kept : (u : Setup) (h : Two) (w : ℕ) (d : Driver) (v : Side) (l : List Marked) → IsSetup u → u.size ≡ v.buffer → AreFairWords v h → w ≡ v.heard
-    → drop d.at u.samples ≡ l → Loose v.third.handed 1 v.buffer u d v → Keeps u (next_sample u h w (record { driver = d; side = v }) l)
+    → drop d.at u.samples ≡ l → Loose v.third.handed 1 v.buffer u d v → KeepsAfter u (next_sample u h w (record { driver = d; side = v }) l)
 next_kept u h w d v [] setup size fair here left i = strict_of u d v i
 next_kept u h w d v (s ∷ rest) setup size fair here left i =
     let x : World = record { driver = d; side = v } in
-    cond_both (ltb (w / 2) s.mark) (ends_with x Held) (take_sample u h x s.key) (Keeps u)
+    cond_both (ltb (w / 2) s.mark) (ends_with x Held) (take_sample u h x s.key) (KeepsAfter u)
     (λ later. strict_of u d v i)
     (λ is_due.
     let mark : s.mark ≤ v.heard / 2 = omega (arith, ltb-false (w / 2) s.mark is_due, ap (λ (n : ℕ). n / 2) here) in
-    cond_both (needs_write s.key d.table) (write_sample u h x s.key) (ends_with (record { driver = take_next d s.key d.table; side = v }) Took) (Keeps u)
+    cond_both (needs_write s.key d.table) (write_sample u h x s.key) (ends_with (record { driver = take_next d s.key d.table; side = v }) Took) (KeepsAfter u)
     (λ needs. write_kept u h d v s rest d.pair.active setup size fair refl needs left mark i)
     (λ none. sample_kept u h d v s rest d.table setup size fair refl left mark i none))
 
 -- the turn goes on after the table was looked for
 after_kept : (u : Setup) (h : Words) (d : Driver) (v : Side) → IsSetup u → u.size ≡ v.buffer → AreFairWords v h.two → h.bell ≡ v.heard → Loose v.third.handed 1 v.buffer u d v
-    → Keeps u (after_regain u h (record { driver = d; side = v }))
+    → KeepsAfter u (after_regain u h (record { driver = d; side = v }))
 after_kept u h d v setup size fair here i =
     let x : World = record { driver = d; side = v } in
-    cond_both (answers_now u d h.bell) (answer_with u x h.bell d.table) (next_sample u h.two h.bell x (drop d.at u.samples)) (Keeps u)
+    cond_both (answers_now u d h.bell) (answer_with u x h.bell d.table) (next_sample u h.two h.bell x (drop d.at u.samples)) (KeepsAfter u)
     (λ answers. answer_kept u d v h.bell d.table setup size refl here answers i)
     (λ none. next_kept u h.two h.bell d v (drop d.at u.samples) setup size fair here refl i)
 
 -- the turn goes on after the table was looked for, by where the table was
 regained_kept : (u : Setup) (h : Words) (d : Driver) (v : Side) (o : Option Table) → IsSetup u → u.size ≡ v.buffer → AreFairWords v h.two → h.bell ≡ v.heard → d.table ≡ o
-    → Loose v.third.handed 1 v.buffer u d v → Keeps u (after_regain u h (regain d v h.third o))
+    → Loose v.third.handed 1 v.buffer u d v → KeepsAfter u (after_regain u h (regain d v h.third o))
 regained_kept u h d v (Some t) setup size fair here held i = after_kept u h d v setup size fair here i
 regained_kept u h d v None setup size fair here held i =
     after_kept u h (regain d v h.third None).driver (side_look_table v h.third) setup size fair here (regain_kept u d v h.third None held i)
 
 -- a turn keeps the invariant
 pub kept_turn : (u : Setup) (h : Words) (d : Driver) (v : Side) → IsSetup u → u.size ≡ v.buffer → AreFairWords v h.two → v.heard ≤ h.bell → DriverInvariant u d v
-    → Keeps u (turn_of u h (record { driver = d; side = v }))
+    → KeepsAfter u (turn_of u h (record { driver = d; side = v }))
 kept_turn u h d v setup size fair later i =
-    cond_both d.done (ends_with (record { driver = d; side = v }) Done) (after_regain u h (regain d (side_hear v h.bell) h.third d.table)) (Keeps u)
+    cond_both d.done (ends_with (record { driver = d; side = v }) Done) (after_regain u h (regain d (side_hear v h.bell) h.third d.table)) (KeepsAfter u)
     (λ done. i)
     (λ going. regained_kept u h d (side_hear v h.bell) d.table setup size fair refl refl
     (kept_hear v.third.handed 1 v.buffer u d v h.bell later (loose_of u d v i going)))

@@ -10,9 +10,12 @@ pub trait Endpoint {
     ghost use Rattle.driver_model.specs.Handover.{FarSide};
     ghost use Rattle.lane_side.specs.Fixed.{Fixed};
 
+    // The driver's half: what its calls change.
     ghost seen: { Self → Side };
 
+    // The daemon's half: what its calls change besides.
     ghost far: { Self → FarSide };
 
+    // What no call changes.
     ghost fixed: { Self → Fixed };
 }

@@ -3,6 +3,8 @@
 ghost use Rattle.std.specs.Prelude.{◌≡◌, ◌+◌, ◌*◌, ◌≤◌, Some, None, length, true, false, IfOk};
 ghost use Rattle.driver_model.specs.Sides.{new_side, room_for};
 ghost use Rattle.driver_model.specs.Handover.{new_far, none_given};
+ghost use Rattle.assoc_table.specs.declared.limits.TheConstants.{MOST_BUCKETS};
+ghost use Rattle.overflow_pair.specs.declared.limits.TheConstants.{MOST_BUFFER};
 ghost use Rattle.lane_side.specs.Fixed.{plain_fixed};
 ghost use Rattle.lane_side.specs.declared.plain.TheConstants.{MOST_REQUESTS};
 ghost use Rattle.sample_key.specs.declared.limits.TheConstants.{LAST_CPU, MOST_SAMPLES};
@@ -64,7 +66,7 @@ impl Endpoint for PlainSide {
 impl PlainSide {
     /// The side of a processor, at most 15, with at most 2,000,000 samples, for at most 65,537 requests; the table has 1 to
     /// 4,096 buckets, and a buffer holds 1 to 8,192 entries. There is room for a hand for each sample, two for each request
-    /// and two more, and for an entry for each sample and one more.
+    /// and two more, and for an entry for each sample and one more. All memory is taken here: `Err` where there is none.
     pub fn new(
         alloc: Global,
         cpu: u32,
@@ -76,8 +78,8 @@ impl PlainSide {
         requires cpu { cpu ≤ LAST_CPU }
         requires few { length samples.now.items ≤ MOST_SAMPLES }
         requires requests { requests ≤ MOST_REQUESTS }
-        requires buckets { (1 ≤ buckets) × (buckets ≤ 4096) }
-        requires buffer { (1 ≤ buffer) × (buffer ≤ 8192) }
+        requires buckets { (1 ≤ buckets) × (buckets ≤ MOST_BUCKETS) }
+        requires buffer { (1 ≤ buffer) × (buffer ≤ MOST_BUFFER) }
         ensures seen { IfOk result (λ side.
             side.seen
             ≡ new_side (Some (room_for (length samples.now.items) requests)) buckets buffer) }
