@@ -1,48 +1,33 @@
+//! One bucket of the table: its ways in use, the search for a key among them, and what adding a sample does to them.
 ghost use Rattle.std.specs.Prelude.{◌≡◌, ◌<◌, ◌≤◌, [], length, is_some, IfSome};
 ghost use Rattle.driver_model.specs.Table.{way_of, row_add, given_out};
 
+use crate::limits::WAYS;
 use driver_model::Added;
-use sample_key::{Entry, Event, Key};
+use sample_key::{Entry, Event, Key, MOST_COUNT};
 use std::marker::Model;
 
-/// How many entries a bucket holds.
-pub(crate) const WAYS: usize = 4;
-
-/// The largest count of an entry.
-const MOST: u32 = 65_535;
-
-// A bucket: the first `len` of its four ways are in use. It is seen as the list of their entries.
+// A bucket: the first `len` of its ways are in use. It is seen as the list of their entries.
 #[derive(Drop)]
 pub(crate) struct Bucket {
-    entries: [Entry; 4],
+    entries: [Entry; WAYS],
     len: usize,
 }
 
 impl Model for Bucket {
     ghost use Rattle.std.specs.Prelude.{◌≤◌, List, take};
     ghost use Rattle.sample_key.specs.Counted.{Counted};
+    ghost use Rattle.assoc_table.specs.declared.limits.TheConstants.{WAYS};
 
     ghost Value = { List Counted };
 
     ghost view = { λ b. take b.len b.entries };
 
-    ghost invariant = { λ b. b.len ≤ 4 };
-}
-
-// Where the entries have the key.
-fn find_in(entries: &[Entry], key: &Key) -> Option<usize>
-    ensures found { result ≡ way_of entries.now key.now }
-    ensures within { IfSome result (λ i. i < length entries.now) }
-{
-    for (i, entry) in entries.iter().enumerate() {
-        if entry.key.same(key) {
-            return Some(i);
-        }
-    }
-    None
+    ghost invariant = { λ b. b.len ≤ WAYS };
 }
 
 impl Bucket {
+    // A bucket of which no way is in use.
     pub(crate) fn new() -> Bucket
         ensures { result ≡ [] }
     {
@@ -52,17 +37,19 @@ impl Bucket {
             event: Event::Cycles,
         };
         Bucket {
-            entries: [Entry { key, count: 1 }; 4],
+            entries: [Entry { key, count: 1 }; WAYS],
             len: 0,
         }
     }
 
+    // The entries of the ways in use.
     pub(crate) fn entries(&self) -> &[Entry]
         ensures { result.now ≡ self.now }
     {
         &self.entries[..self.len]
     }
 
+    // Takes all entries away.
     pub(crate) fn clear(&mut self)
         ensures { self.new ≡ [] }
     {
@@ -70,29 +57,29 @@ impl Bucket {
     }
 
     // Whether adding the key would give an entry out.
-    pub(crate) fn needs_room(&self, key: &Key, turn: usize) -> bool
-        ensures { result ≡ is_some (given_out (row_add self.now key.now turn).added) }
+    pub(crate) fn needs_room(&self, key: &Key, victim: usize) -> bool
+        ensures { result ≡ is_some (given_out (row_add self.now key.now victim).added) }
     {
         match find_in(&self.entries[..self.len], key) {
             Some(i) => {
                 let entry = &self.entries[i];
-                entry.count >= MOST
+                entry.count >= MOST_COUNT
             }
             None => self.len >= WAYS,
         }
     }
 
-    // Adds a sample of the key; `turn` is the way to replace next.
-    pub(crate) fn add(&mut self, key: Key, turn: &mut usize) -> Added
-        requires { turn.old < 4 }
-        ensures row { self.new ≡ (row_add self.old key turn.old).row }
-        ensures added { result ≡ (row_add self.old key turn.old).added }
-        ensures turn { turn.new ≡ (row_add self.old key turn.old).turn }
+    // Adds a sample of the key; `victim` is the way to replace next.
+    pub(crate) fn add(&mut self, key: Key, victim: &mut usize) -> Added
+        requires { victim.old < WAYS }
+        ensures row { self.new ≡ (row_add self.old key victim.old).row }
+        ensures added { result ≡ (row_add self.old key victim.old).added }
+        ensures turn { victim.new ≡ (row_add self.old key victim.old).turn }
     {
         match find_in(&self.entries[..self.len], &key) {
             Some(i) => {
                 let old = self.entries[i];
-                if old.count < MOST {
+                if old.count < MOST_COUNT {
                     self.entries[i] = Entry {
                         key: old.key,
                         count: old.count + 1,
@@ -113,13 +100,26 @@ impl Bucket {
                     self.len += 1;
                     Added::Placed
                 } else {
-                    let way = *turn;
+                    let way = *victim;
                     let old = self.entries[way];
                     self.entries[way] = fresh;
-                    *turn = (way + 1) % WAYS;
+                    *victim = (way + 1) % WAYS;
                     Added::Evicted(old)
                 }
             }
         }
     }
+}
+
+// Where the entries have the key.
+fn find_in(entries: &[Entry], key: &Key) -> Option<usize>
+    ensures found { result ≡ way_of entries.now key.now }
+    ensures within { IfSome result (λ i. i < length entries.now) }
+{
+    for (i, entry) in entries.iter().enumerate() {
+        if entry.key.same(key) {
+            return Some(i);
+        }
+    }
+    None
 }

@@ -1,60 +1,47 @@
-ghost use Rattle.std.specs.Prelude.{◌≡◌, ℕ, ◌+◌, ◌<◌, ◌≤◌, ◌++◌, List, length, vec_len, vec_capacity, IfOk, OnOk, OnErr};
+//! The table: buckets by the hash of a key, and one counter for all of them that says which way is replaced next.
+ghost use Rattle.std.specs.Prelude.{◌≡◌, ℕ, ◌+◌, ◌<◌, ◌≤◌, ◌++◌, [], List, length, vec_len, vec_capacity, IfOk, OnOk, OnErr};
 ghost use Rattle.sample_key.specs.Counted.{Counted};
 ghost use Rattle.driver_model.specs.Table.{bucket_of, add, needs_room, empty_table, cleared, entries_in};
 
 use crate::buckets::Bucket;
+use crate::limits::MOST_BUCKETS;
 use driver_model::Added;
 use sample_key::{Body, Entry, Key};
 use std::alloc::{AllocError, Global};
 use std::marker::Model;
 
-/// A table of 1 to 4,096 buckets of four ways, with the index of the way to replace next, 0 to 3.
+/// A table of 1 to `MOST_BUCKETS` buckets of four ways each. Contracts see its entries by bucket (`rows`) and the index
+/// of the way that is replaced next in whatever bucket is full, 0 to 3 (`turn`).
 #[derive(Drop)]
 pub struct AssocTable {
     rows: Vec<Bucket>,
-    turn: usize,
+    victim: usize,
 }
 
 impl Model for AssocTable {
     ghost use Rattle.std.specs.Prelude.{◌<◌, ◌≤◌, length};
     ghost use Rattle.driver_model.specs.Table.{Table};
+    ghost use Rattle.assoc_table.specs.declared.limits.TheConstants.{MOST_BUCKETS, WAYS};
 
     ghost Value = { Table };
 
-    ghost view = { λ t. record { rows = t.rows.items; turn = t.turn } };
+    ghost view = { λ t. record { rows = t.rows.items; turn = t.victim } };
 
-    ghost invariant = { λ t. (1 ≤ length t.rows.items) × (length t.rows.items ≤ 4096) × (t.turn < 4) };
-}
-
-// The usual number of buckets. A division by a number that is known beforehand costs little.
-const USUAL: usize = 4_096;
-
-// The bucket of a key among so many.
-fn bucket(buckets: usize, key: &Key) -> usize
-    requires { 1 ≤ buckets }
-    ensures place { result ≡ bucket_of buckets key.now }
-    ensures within { result < buckets }
-{
-    let Key { pid, pc, event } = *key;
-    let mixed = (pc / 4 + 7 * u64::from(pid) + u64::from(event.code())) as usize;
-    match buckets {
-        USUAL => mixed % USUAL,
-        _ => mixed % buckets,
-    }
+    ghost invariant = { λ t. (1 ≤ length t.rows.items) × (length t.rows.items ≤ MOST_BUCKETS) × (t.victim < WAYS) };
 }
 
 impl AssocTable {
-    /// An empty table of so many buckets, 1 to 4,096, with the turn 0.
+    /// An empty table of so many buckets, from 1 to `MOST_BUCKETS`, with the turn 0. It fails only for want of memory.
     pub fn new(alloc: Global, buckets: usize) -> Result<AssocTable, AllocError>
         requires some { 1 ≤ buckets }
-        requires few { buckets ≤ 4096 }
+        requires few { buckets ≤ MOST_BUCKETS }
         ensures { IfOk result (λ t. t ≡ empty_table buckets 0) }
     {
         let mut rows = Vec::with_capacity(alloc, buckets)?;
         for _ in 0..buckets {
             rows.push(Bucket::new())?;
         }
-        Ok(AssocTable { rows, turn: 0 })
+        Ok(AssocTable { rows, victim: 0 })
     }
 
     /// Whether adding the key would give an entry out: its entry is full, or it has none and its bucket is full.
@@ -62,7 +49,7 @@ impl AssocTable {
         ensures { result ≡ needs_room self.now key.now }
     {
         let row = &self.rows[bucket(self.rows.len(), key)];
-        row.needs_room(key, self.turn)
+        row.needs_room(key, self.victim)
     }
 
     /// Adds a sample of the key: its entry's count rises or is given out at 65,535; or it takes a free way; or it takes
@@ -73,7 +60,7 @@ impl AssocTable {
     {
         let at = bucket(self.rows.len(), &key);
         let row = &mut self.rows[at];
-        row.add(key, &mut self.turn)
+        row.add(key, &mut self.victim)
     }
 
     /// Takes all entries away; the turn stays.
@@ -99,9 +86,24 @@ impl AssocTable {
     }
 }
 
+// The bucket of a key among so many. The usual number is known beforehand, and a division by it costs little.
+fn bucket(buckets: usize, key: &Key) -> usize
+    requires { 1 ≤ buckets }
+    ensures place { result ≡ bucket_of buckets key.now }
+    ensures within { result < buckets }
+{
+    let Key { pid, pc, event } = *key;
+    let mixed = (pc / 4 + 7 * u64::from(pid) + u64::from(event.code())) as usize;
+    match buckets {
+        MOST_BUCKETS => mixed % MOST_BUCKETS,
+        _ => mixed % buckets,
+    }
+}
+
 impl Body for AssocTable {
     ghost entries = { entries_in };
 
+    /// Appends the entries by bucket, and in a bucket by index.
     fn copy_to(&self, out: &mut Vec<Entry>) -> Result<(), AllocError> {
         let before = out.len();
         match self.copy_rows(out) {
@@ -113,7 +115,11 @@ impl Body for AssocTable {
         }
     }
 
-    fn clear(&mut self) {
+    /// Takes all entries away; the turn stays.
+    fn clear(&mut self)
+        ensures entries { entries_in self.new ≡ [] }
+        ensures cleared { self.new ≡ cleared self.old }
+    {
         AssocTable::clear(self);
     }
 }
