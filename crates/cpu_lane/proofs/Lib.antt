@@ -1,3 +1,5 @@
+-- The lemmas behind the answers, lowest first.
+pub mod Told
 pub mod Handing
 pub mod Looking
 pub mod Readying

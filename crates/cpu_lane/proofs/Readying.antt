@@ -1,23 +1,21 @@
+-- A turn stays ready after its looks, and a sample that is due can be counted and written.
 use Rattle.std.proofs.Common.{◌≡◌, ℕ, ◌+◌, ◌/◌, ◌<◌, ◌≤◌, List, [], ◌∷◌, ◌++◌, length, drop, refl, sym, ◌∙◌, ap, subst, arith, true, false, Some, None, Option, eqb, ◌&&◌, length-append}
-use Rattle.std.specs.Prelude.{is_some}
-use Rattle.std.proofs.lemmas.Bool.{cond_both}
+use Rattle.std.specs.Prelude.{is_some, IfSome, IsSomeAnd}
+use Rattle.std.proofs.lemmas.Bool.{cond_both, both_ways}
 use Rattle.sample_key.specs.Counted.{Counted}
 use Rattle.sample_key.specs.Marks.{due}
 use Rattle.sample_key.specs.declared.keys.Key.{Key}
 use Rattle.driver_model.specs.Table.{Table}
-use Rattle.driver_model.specs.Sides.{Side, is_even, side_look_buffer}
+use Rattle.driver_model.specs.Sides.{Side, HasRoomFor, is_even, side_look_buffer}
 use Rattle.driver_model.specs.Driver.{Setup, Buffers, Driver, World, Two, activate, other, word_at, look_other, look_both, find_buffer, take_next}
 use Rattle.driver_model.specs.Invariant.{table_entries, active_entries, is_active}
-use Rattle.driver_laws.specs.Turns.{RoomFor}
-use Rattle.driver_laws.proofs.Lists.{next_below}
+use Rattle.driver_laws.proofs.Lists.{by_number, next_below}
 use Rattle.driver_laws.proofs.Marks.{due_next}
-use Rattle.overflow_pair.specs.Contents.{Contents, pushed}
+use Rattle.overflow_pair.specs.Contents.{Contents, HasSpace, pushed, entries_if}
 use Rattle.lane_side.specs.Fixed.{Fixed}
-use Rattle.cpu_lane.specs.Steps.{Is, with_active, looked}
+use Rattle.cpu_lane.specs.Steps.{Is, looked}
 use Rattle.cpu_lane.specs.Ready.{Ready, CanHand, CanCount, IsDue}
-use Rattle.cpu_lane.proofs.Handing.{by_number, less_room, can_hand}
-
--- a turn stays ready after its looks
+use Rattle.cpu_lane.proofs.Handing.{less_room, can_hand}
 
 -- buffer 0 came back
 ready_back0 : (u : Setup) (f : Fixed) (d : Driver) (v : Side) (w : ℕ) → Ready u f d v → d.pair.active ≡ None → is_even w ≡ true
@@ -25,8 +23,8 @@ ready_back0 : (u : Setup) (f : Fixed) (d : Driver) (v : Side) (w : ℕ) → Read
 ready_back0 u f d v w r none even =
     let no : (n : ℕ) → is_active d.pair n ≡ false = λ n. ap (λ (a : Option (List Counted)). is_some a && eqb d.pair.active_number n) none in
     record {
-      setup = r.setup;
-      side = record { cpu = r.side.cpu; samples = r.side.samples; size = r.side.size };
+      setup_is = r.setup_is;
+      side_is = record { cpu = r.side_is.cpu; samples = r.side_is.samples; size = r.side_is.size };
       room = less_room 2 2 (length (table_entries d.table) + length (active_entries d.pair.active) + 1) (length (table_entries d.table) + 0 + 1) v.room (omega arith) (omega arith) r.room;
       holds0 = even;
       holds1 = r.holds1 ∙ no 1;
@@ -54,8 +52,8 @@ ready_out0 : (u : Setup) (f : Fixed) (d : Driver) (v : Side) (w : ℕ) → Ready
 ready_out0 u f d v w r none odd =
     let no : (n : ℕ) → is_active d.pair n ≡ false = λ n. ap (λ (a : Option (List Counted)). is_some a && eqb d.pair.active_number n) none in
     record {
-      setup = r.setup;
-      side = record { cpu = r.side.cpu; samples = r.side.samples; size = r.side.size };
+      setup_is = r.setup_is;
+      side_is = record { cpu = r.side_is.cpu; samples = r.side_is.samples; size = r.side_is.size };
       room = r.room;
       holds0 = odd ∙ sym (no 0);
       holds1 = r.holds1;
@@ -83,8 +81,8 @@ ready_back1 : (u : Setup) (f : Fixed) (d : Driver) (v : Side) (w : ℕ) → Read
 ready_back1 u f d v w r none even =
     let no : (n : ℕ) → is_active d.pair n ≡ false = λ n. ap (λ (a : Option (List Counted)). is_some a && eqb d.pair.active_number n) none in
     record {
-      setup = r.setup;
-      side = record { cpu = r.side.cpu; samples = r.side.samples; size = r.side.size };
+      setup_is = r.setup_is;
+      side_is = record { cpu = r.side_is.cpu; samples = r.side_is.samples; size = r.side_is.size };
       room = less_room 2 2 (length (table_entries d.table) + length (active_entries d.pair.active) + 1) (length (table_entries d.table) + 0 + 1) v.room (omega arith) (omega arith) r.room;
       holds0 = r.holds0 ∙ no 0;
       holds1 = even;
@@ -112,8 +110,8 @@ ready_out1 : (u : Setup) (f : Fixed) (d : Driver) (v : Side) (w : ℕ) → Ready
 ready_out1 u f d v w r none odd =
     let no : (n : ℕ) → is_active d.pair n ≡ false = λ n. ap (λ (a : Option (List Counted)). is_some a && eqb d.pair.active_number n) none in
     record {
-      setup = r.setup;
-      side = record { cpu = r.side.cpu; samples = r.side.samples; size = r.side.size };
+      setup_is = r.setup_is;
+      side_is = record { cpu = r.side_is.cpu; samples = r.side_is.samples; size = r.side_is.size };
       room = r.room;
       holds0 = r.holds0;
       holds1 = odd ∙ sym (no 1);
@@ -204,7 +202,7 @@ still_due u d e v w k at heard n =
 pub can_count : (u : Setup) (f : Fixed) (d : Driver) (v : Side) (k : Key) → Ready u f d v → IsDue u d v k → CanCount d × (d.at < length u.samples)
 can_count u f d v k r n =
     let left : d.at < length u.samples = next_below d.at u.samples n.0 n.1 n.2 in
-    (record { at = omega (arith, left, r.setup.few); all = r.all }, left)
+    (record { at = omega (arith, left, r.setup_is.few); all = r.all }, left)
 
 -- a sample more was taken
 taken : (d : Driver) (k : Key) (o : Option Table) → ((take_next d k o).at ≡ d.at + 1) × ((take_next d k o).pair ≡ d.pair)
@@ -217,16 +215,35 @@ HandsFrom v at p = (p.active_number ≤ 1) × (v.first.holds ≡ eqb p.active_nu
     × (p.hands0 ≡ length v.first.handed) × (p.hands1 ≡ length v.second.handed) × (p.hands0 ≤ at) × (p.hands1 ≤ at)
 
 -- the buffer with what the sample needs written can be handed
-pub can_push : (u : Setup) (f : Fixed) (d e : Driver) (v : Side) (b : Contents) (x : Counted) (k : Key) (o : Option Table) → Ready u f (with_active d b.entries) v → IsDue u d v k
+pub can_push : (u : Setup) (f : Fixed) (d e : Driver) (v : Side) (b : Contents) (x : Counted) (k : Key) (o : Option Table) → Ready u f d v → d.pair.active ≡ Some b.entries → IsDue u d v k
     → e ≡ take_next d k o → b.size ≡ u.size → CanHand u f e v (pushed b x)
-can_push u f d e v b x k o r n is size =
+can_push u f d e v b x k o r active n is size =
     let t = taken d k o in
     let at : e.at ≡ d.at + 1 = ap (λ (z : Driver). z.at) is ∙ t.0 in
     let pair : e.pair ≡ d.pair = ap (λ (z : Driver). z.pair) is ∙ t.1 in
     let more : length (b.entries ++ x ∷ []) ≡ length b.entries + 1 = length-append b.entries (x ∷ []) in
-    let up : d.at + 1 ≤ due u.samples (v.heard / 2) = due_next u.samples 0 d.at (v.heard / 2) n.0 n.1 r.setup.rising n.2 n.4 in
-    let room : RoomFor 1 (length (b.entries ++ x ∷ [])) v.room =
-    less_room 2 1 (length (table_entries d.table) + length b.entries + 1) (length (b.entries ++ x ∷ [])) v.room (omega arith) (omega (arith, more)) r.room in
+    let count : length (active_entries d.pair.active) ≡ length b.entries = ap (λ (a : Option (List Counted)). length (active_entries a)) active in
+    let holds : (m : ℕ) → is_active d.pair m ≡ eqb d.pair.active_number m = λ m. ap (λ (a : Option (List Counted)). is_some a && eqb d.pair.active_number m) active in
+    let up : d.at + 1 ≤ due u.samples (v.heard / 2) = due_next u.samples 0 d.at (v.heard / 2) n.0 n.1 r.setup_is.rising n.2 n.4 in
+    let room : HasRoomFor 1 (length (b.entries ++ x ∷ [])) v.room =
+    less_room 2 1 (length (table_entries d.table) + length (active_entries d.pair.active) + 1) (length (b.entries ++ x ∷ [])) v.room (omega arith) (omega (arith, more, count)) r.room in
     let h : HandsFrom v e.at e.pair = subst (λ (p : Buffers). HandsFrom v e.at p) (sym pair)
-    (r.number, r.holds0, r.holds1, r.hands0, r.hands1, omega (arith, r.few0, at), omega (arith, r.few1, at)) in
-    can_hand u f e v (pushed b x) r.setup r.side h.0 h.1 h.2 h.3 h.4 h.5 h.6 (omega (arith, up, at)) (omega (arith, r.held, more, at)) room size
+    (r.number, r.holds0 ∙ holds 0, r.holds1 ∙ holds 1, r.hands0, r.hands1, omega (arith, r.few0, at), omega (arith, r.few1, at)) in
+    can_hand u f e v (pushed b x) r.setup_is r.side_is h.0 h.1 h.2 h.3 h.4 h.5 h.6 (omega (arith, up, at)) (omega (arith, r.held, more, count, at)) room size
+
+-- the active buffer, which has the made size, has space for an entry
+pub has_space : (u : Setup) (f : Fixed) (d : Driver) (v : Side) (o : Option Contents) → Ready u f d v → d.pair.active ≡ entries_if o → is_some o ≡ true → IfSome o (λ b. b.size ≡ u.size)
+    → IsSomeAnd o HasSpace
+has_space u f d v None r active some size = absurd (both_ways false refl some)
+has_space u f d v (Some b) r active some size =
+    let few : length b.entries < v.buffer = subst (λ (a : Option (List Counted)). IfSome a (λ es. length es < v.buffer)) active r.active in
+    omega (arith, few, size, r.side_is.size)
+
+-- of a known buffer
+pub size_of : (o : Option Contents) (b : Contents) (size : ℕ) → o ≡ Some b → IfSome o (λ c. c.size ≡ size) → b.size ≡ size
+size_of o b size is h = subst (λ (p : Option Contents). IfSome p (λ c. c.size ≡ size)) is h
+
+-- the active buffer, where there is one
+pub known : (o : Option Contents) → is_some o ≡ true → (b : Contents) × (o ≡ Some b)
+known None some = absurd (both_ways false refl some)
+known (Some b) some = (b, refl)

@@ -1,5 +1,6 @@
-use Rattle.std.proofs.Common.{◌≡◌, ℕ, ◌/◌, ◌<◌, ◌≤◌, List, [], ◌∷◌, ◌++◌, drop, refl, sym, ◌∙◌, ap, subst, arith, Bool, true, false, Some, None, Option, cond, eqb, ltb, leb, eq-eqb, eqb-true, ltb-true, ltb-false, le-leb}
-use Rattle.std.proofs.lemmas.Bool.{cond-true, cond-false, both_ways, lt-ltb, le-ltb}
+-- What a turn gives for the next sample, as the definitions say it.
+use Rattle.std.proofs.Common.{◌≡◌, ℕ, ◌/◌, ◌<◌, ◌≤◌, List, [], ◌∷◌, ◌++◌, drop, refl, sym, ◌∙◌, ap, subst, arith, Bool, true, false, Some, None, Option, cond, eqb, ltb, leb, eq-eqb, eqb-true, ltb-true, ltb-false, le-leb, length}
+use Rattle.std.proofs.lemmas.Bool.{cond-true, cond-false, lt-ltb, le-ltb, lt-leb}
 use Rattle.std.specs.Prelude.{is_some, unwrap_or}
 use Rattle.sample_key.specs.Counted.{Counted, entry}
 use Rattle.sample_key.specs.Marks.{due, IsRising, RisesFrom}
@@ -9,22 +10,11 @@ use Rattle.sample_key.specs.declared.losses.Pace.{Pace}
 use Rattle.sample_key.specs.declared.losses.Pace.TheVariants.{Exact}
 use Rattle.driver_model.specs.Table.{Table}
 use Rattle.driver_model.specs.Sides.{Side}
-use Rattle.driver_model.specs.Driver.{Setup, Driver, World, Turned, Two, Words, find_buffer, look_both, push, to_write, write, write_sample, take_sample, next_sample, take_next, needs_write, ends_with, may_answer, answers_now, answer_with, after_regain}
+use Rattle.driver_model.specs.Driver.{Setup, Driver, World, Turned, Two, Words, find_buffer, look_both, push, to_write, entry_to_write, write, write_sample, take_sample, next_sample, take_next, needs_write, hand_buffer, ends_with, may_answer, answers_now, answer_with, after_regain}
 use Rattle.driver_model.specs.declared.answers.Turn.{Turn}
 use Rattle.driver_model.specs.declared.answers.Turn.TheVariants.{Took, Held, Idle}
-use Rattle.driver_laws.specs.Turns.{IsFair}
 use Rattle.driver_laws.proofs.Marks.{rises_from, due_none}
-use Rattle.cpu_lane.specs.Steps.{Is, Gives, with_active, written, put, take_held}
-
--- what a sample's turn gives, as the definitions say it
-
--- words that no look read
-abbrev pub no_words : Two
-no_words = record { first = 0; second = 0 }
-
--- such words are fair
-pub fair_none : (v : Side) → IsFair v no_words
-fair_none v = ((λ z. absurd (both_ways true z refl)), (λ z. absurd (both_ways true z refl)))
+use Rattle.cpu_lane.specs.Steps.{Is, Gives, put, take_held}
 
 -- by the value of a test
 by_test : (P : Bool → Type 0) (b : Bool) → (b ≡ true → P true) → (b ≡ false → P false) → P b
@@ -43,7 +33,7 @@ next_later ss n m s rest rising next =
     (λ later. sym (eq-eqb (due (s ∷ rest) m) 0 (due_none (s ∷ rest) s.mark m from (ltb-true m s.mark later))))
     (λ now. sym (some_due (due (s ∷ rest) m) (rw (cond-true {A = ℕ} (leb s.mark m) 1 0 (le-leb s.mark m (ltb-false m s.mark now))) (omega arith)))))
 
--- whether the driver may said at the exact pace, by the next sample
+-- whether the driver may answer at the exact pace, by the next sample
 pub may_exact : (u : Setup) (d : Driver) (w : ℕ) (p : Pace) (s : Marked) (rest : List Marked) → IsRising u.samples → p ≡ Exact → drop d.at u.samples ≡ s ∷ rest
     → ltb (w / 2) s.mark ≡ may_answer u d w p
 may_exact u d w p s rest rising pace next =
@@ -59,65 +49,59 @@ write_at u k h d v e w a said f x none is active gives =
     subst (λ (z : World). Gives (write u z k u.pace z.driver.pair.active) said f x) same
     (subst (λ (b : Option (List Counted)). Gives (write u (record { driver = e; side = w }) k u.pace b) said f x) (sym active) gives)
 
--- the same, where a buffer of these entries was found
+-- the same, where a buffer of these entries is active now
 pub write_held : (u : Setup) (k : Key) (h : Two) (d : Driver) (v : Side) (e : Driver) (w : Side) (es : List Counted) (said : Turn) (f : Driver) (x : Side) → d.pair.active ≡ None
-    → Is (look_both h d v d.pair.next) (with_active e es) w → needs_write k e.table ≡ true → Gives (take_held u (record { driver = with_active e es; side = w }) k es) said f x
+    → Is (look_both h d v d.pair.next) e w → e.pair.active ≡ Some es → needs_write k e.table ≡ true → Gives (take_held u (record { driver = e; side = w }) k es) said f x
     → Gives (write_sample u h (record { driver = d; side = v }) k) said f x
-write_held u k h d v e w es said f x none is needs gives =
-    let y : World = record { driver = with_active e es; side = w } in
-    write_at u k h d v (with_active e es) w (Some es) said f x none is refl
+write_held u k h d v e w es said f x none is active needs gives =
+    let y : World = record { driver = e; side = w } in
+    write_at u k h d v e w (Some es) said f x none is active
     (subst (λ (t : Turned). Gives t said f x)
-    (cond-true (needs_write k e.table) (ends_with (push u y k es) Took) (ends_with (record { driver = take_next y.driver k e.table; side = w }) Took) needs) gives)
+    (cond-true (needs_write k e.table) (ends_with (push u y k es) Took) (ends_with (record { driver = take_next e k e.table; side = w }) Took) needs) gives)
 
--- what a turn takes by the table, where a buffer of these entries is active
-abbrev held_by : Setup → Driver → Side → Key → List Counted → Option Table → Turned
-held_by u d v k es o =
-    cond (needs_write k o) (ends_with (put u (take_next (with_active d es) k o) v (es ++ to_write k o ∷ [])) Took)
-    (ends_with (record { driver = take_next (with_active d es) k o; side = v }) Took)
-
--- something was to be written
-pub held_some : (u : Setup) (d : Driver) (v : Side) (k : Key) (es : List Counted) (o : Option Table) (x : Counted) (e f : Driver) (y : Side) → d.table ≡ o → written k o ≡ Some x
-    → e ≡ take_next d k o → Is (put u e v (es ++ x ∷ [])) f y → Gives (take_held u (record { driver = with_active d es; side = v }) k es) Took f y
-held_some u d v k es o x e f y table out is puts =
-    subst (λ (t : Option Table). Gives (held_by u d v k es t) Took f y) (sym table)
-    (at o out (subst (λ (z : Driver). Is (put u z v (es ++ x ∷ [])) f y) is puts))
-  where
-    at : (o : Option Table) → written k o ≡ Some x → Is (put u (take_next d k o) v (es ++ x ∷ [])) f y → Gives (held_by u d v k es o) Took f y
-    at None out puts =
-        let same : entry k 1 ≡ x = ap (λ (z : Option Counted). unwrap_or z (entry k 1)) out in
-        subst (λ (z : Counted). Gives (ends_with (put u (take_next d k None) v (es ++ z ∷ [])) Took) Took f y) (sym same) (refl, puts.0, puts.1)
-    at (Some t) out puts =
-        let same : to_write k (Some t) ≡ x = ap (λ (z : Option Counted). unwrap_or z (entry k 1)) out in
-        let needs : needs_write k (Some t) ≡ true = ap (λ (z : Option Counted). is_some z) out in
-        subst (λ (z : Turned). Gives z Took f y)
-        (sym (cond-true (needs_write k (Some t)) (ends_with (put u (take_next (with_active d es) k (Some t)) v (es ++ to_write k (Some t) ∷ [])) Took)
-        (ends_with (record { driver = take_next (with_active d es) k (Some t); side = v }) Took) needs))
-        (subst (λ (z : Counted). Gives (ends_with (put u (take_next d k (Some t)) v (es ++ z ∷ [])) Took) Took f y) (sym same) (refl, puts.0, puts.1))
+-- something was to be written, where a buffer of these entries is active
+pub held_some : (u : Setup) (d : Driver) (v : Side) (k : Key) (es : List Counted) (x : Counted) (e f : Driver) (y : Side) → to_write k d.table ≡ Some x
+    → e ≡ take_next d k d.table → Is (put u e v (es ++ x ∷ [])) f y → Gives (take_held u (record { driver = d; side = v }) k es) Took f y
+held_some u d v k es x e f y out is puts =
+    let same : entry_to_write k d.table ≡ x = ap (λ (z : Option Counted). unwrap_or z (entry k 1)) out in
+    let needs : needs_write k d.table ≡ true = ap (λ (z : Option Counted). is_some z) out in
+    let here : Is (put u (take_next d k d.table) v (es ++ entry_to_write k d.table ∷ [])) f y =
+    subst (λ (z : Counted). Is (put u (take_next d k d.table) v (es ++ z ∷ [])) f y) (sym same) (subst (λ (z : Driver). Is (put u z v (es ++ x ∷ [])) f y) is puts) in
+    subst (λ (z : Turned). Gives z Took f y)
+    (sym (cond-true (needs_write k d.table) (ends_with (push u (record { driver = d; side = v }) k es) Took) (ends_with (record { driver = take_next d k d.table; side = v }) Took) needs))
+    (refl, here.0, here.1)
 
 -- nothing was
-pub held_none : (u : Setup) (d : Driver) (v : Side) (k : Key) (es : List Counted) (o : Option Table) (e : Driver) → d.table ≡ o → written k o ≡ None → e ≡ take_next d k o
-    → Gives (take_held u (record { driver = with_active d es; side = v }) k es) Took (with_active e es) v
-held_none u d v k es o e table out is =
-    subst (λ (t : Option Table). Gives (held_by u d v k es t) Took (with_active e es) v) (sym table) (at o out is)
-  where
-    at : (o : Option Table) → written k o ≡ None → e ≡ take_next d k o → Gives (held_by u d v k es o) Took (with_active e es) v
-    at None out is = absurd (both_ways true (ap (λ (z : Option Counted). is_some z) out) refl)
-    at (Some t) out is =
-        let spare : needs_write k (Some t) ≡ false = ap (λ (z : Option Counted). is_some z) out in
-        subst (λ (z : Turned). Gives z Took (with_active e es) v)
-        (sym (cond-false (needs_write k (Some t)) (ends_with (put u (take_next (with_active d es) k (Some t)) v (es ++ to_write k (Some t) ∷ [])) Took)
-        (ends_with (record { driver = take_next (with_active d es) k (Some t); side = v }) Took) spare))
-        (refl, ap (λ (z : Driver). with_active z es) is, refl)
+pub held_none : (u : Setup) (d : Driver) (v : Side) (k : Key) (es : List Counted) (e : Driver) → to_write k d.table ≡ None → e ≡ take_next d k d.table
+    → Gives (take_held u (record { driver = d; side = v }) k es) Took e v
+held_none u d v k es e out is =
+    let spare : needs_write k d.table ≡ false = ap (λ (z : Option Counted). is_some z) out in
+    subst (λ (z : Turned). Gives z Took e v)
+    (sym (cond-false (needs_write k d.table) (ends_with (push u (record { driver = d; side = v }) k es) Took) (ends_with (record { driver = take_next d k d.table; side = v }) Took) spare))
+    (refl, is, refl)
+
+-- the entries fill the buffer, which is handed
+pub put_full : (u : Setup) (d m : Driver) (v : Side) (es : List Counted) (f : Driver) (y : Side) → u.size ≤ length es → m ≡ record d { pair = record d.pair { active = None } }
+    → Is (hand_buffer u m v m.pair.active_number es) f y → Is (put u d v es) f y
+put_full u d m v es f y full same hands =
+    let here : Is (hand_buffer u d v d.pair.active_number es) f y = subst (λ (z : Driver). Is (hand_buffer u z v z.pair.active_number es) f y) same hands in
+    subst (λ (z : World). Is z f y)
+    (sym (cond-true (leb u.size (length es)) (hand_buffer u d v d.pair.active_number es) (record { driver = record d { pair = record d.pair { active = Some es } }; side = v }) (le-leb u.size (length es) full))) here
+
+-- they do not
+pub put_room : (u : Setup) (d m : Driver) (v : Side) (es : List Counted) → length es < u.size → m ≡ record d { pair = record d.pair { active = Some es } } → Is (put u d v es) m v
+put_room u d m v es room same =
+    subst (λ (z : World). Is z m v)
+    (sym (cond-false (leb u.size (length es)) (hand_buffer u d v d.pair.active_number es) (record { driver = record d { pair = record d.pair { active = Some es } }; side = v }) (lt-leb u.size (length es) room))) (same, refl)
 
 -- a buffer of these entries was active
-pub take_active : (u : Setup) (h : Two) (d e : Driver) (v : Side) (k : Key) (es : List Counted) (said : Turn) (f : Driver) (y : Side) → d.pair.active ≡ Some es → with_active e es ≡ d
-    → Gives (take_held u (record { driver = with_active e es; side = v }) k es) said f y → Gives (take_sample u h (record { driver = d; side = v }) k) said f y
-take_active u h d e v k es said f y active same gives =
+pub take_active : (u : Setup) (h : Two) (d : Driver) (v : Side) (k : Key) (es : List Counted) (said : Turn) (f : Driver) (y : Side) → d.pair.active ≡ Some es
+    → Gives (take_held u (record { driver = d; side = v }) k es) said f y → Gives (take_sample u h (record { driver = d; side = v }) k) said f y
+take_active u h d v k es said f y active gives =
     let x : World = record { driver = d; side = v } in
-    let here : Gives (take_held u x k es) said f y = subst (λ (z : Driver). Gives (take_held u (record { driver = z; side = v }) k es) said f y) same gives in
     let writes : write_sample u h x k ≡ ends_with (push u x k es) Took =
     ap (λ (a : Option (List Counted)). write u (find_buffer h d v a) k u.pace (find_buffer h d v a).driver.pair.active) active ∙ ap (λ (a : Option (List Counted)). write u x k u.pace a) active in
-    subst (λ (z : Turned). Gives (cond (needs_write k d.table) z (ends_with (record { driver = take_next d k d.table; side = v }) Took)) said f y) (sym writes) here
+    subst (λ (z : Turned). Gives (cond (needs_write k d.table) z (ends_with (record { driver = take_next d k d.table; side = v }) Took)) said f y) (sym writes) gives
 
 -- the sample needs no write
 pub take_plain : (u : Setup) (h : Two) (d : Driver) (v : Side) (k : Key) (o : Option Table) (e : Driver) → d.table ≡ o → needs_write k o ≡ false → e ≡ take_next d k o

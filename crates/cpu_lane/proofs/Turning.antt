@@ -1,3 +1,4 @@
+-- A turn is ready for its steps once the bell was heard and the table looked for; and what it gives, from what they give.
 use Rattle.std.proofs.Common.{◌≡◌, ℕ, ◌+◌, ◌*◌, ◌/◌, ◌<◌, ◌≤◌, List, [], ◌∷◌, length, refl, sym, ◌∙◌, ap, subst, arith, true, false, Some, None, Option}
 use Rattle.std.specs.Prelude.{is_some, IfSome}
 use Rattle.std.proofs.lemmas.Bool.{cond_both, cond-true, cond-false}
@@ -7,22 +8,21 @@ use Rattle.sample_key.specs.Sent.{Sent}
 use Rattle.driver_model.specs.Lists.{AllOf}
 use Rattle.driver_model.specs.Table.{Table, entries_in, empty_table, IsTable}
 use Rattle.driver_model.specs.Sides.{Slot, Side, is_even, side_hear, side_look_table}
-use Rattle.driver_model.specs.Driver.{Setup, Driver, World, Turned, Words, ends_with, regain, after_regain, turn_of}
+use Rattle.driver_model.specs.Driver.{Setup, Driver, World, Turned, Two, Words, ends_with, regain, after_regain, turn_of}
 use Rattle.driver_model.specs.Invariant.{IsSetup, FullOrCut, entries_of, last_answer, table_entries, active_entries, DriverInvariant}
 use Rattle.driver_model.specs.declared.answers.Turn.{Turn}
 use Rattle.driver_model.specs.declared.answers.Turn.TheVariants.{Done}
-use Rattle.driver_laws.specs.Turns.{IsFair}
+use Rattle.driver_model.specs.Handover.{FarSide, Given}
+use Rattle.driver_model.specs.Runs.{words_at, word_of}
+use Rattle.driver_laws.specs.Turns.{AreFairWords}
 use Rattle.driver_laws.proofs.Marks.{due_later}
 use Rattle.driver_laws.proofs.Parts.{few_answers}
 use Rattle.driver_laws.proofs.Tables.{empty_entries}
 use Rattle.lane_side.specs.Fixed.{Fixed}
+use Rattle.cpu_lane.specs.Told.{OverTwo, OverThird, two_at}
 use Rattle.cpu_lane.specs.Steps.{Is, Gives}
 use Rattle.cpu_lane.specs.Ready.{IsSideOf, HasRoom, Ready}
-use Rattle.driver_laws.proofs.Lefts.{hears_turn}
 use Rattle.cpu_lane.proofs.Handing.{less_room}
-use Rattle.cpu_lane.proofs.Sampling.{no_words, fair_none}
-
--- a turn is ready for its steps once the bell was heard and the table looked for
 
 -- each batch of a buffer has an entry
 few_batches : (cell size : ℕ) (tables bs : List Sent) → AllOf (FullOrCut cell size tables) bs → length bs ≤ entries_of bs
@@ -45,8 +45,8 @@ ready_hear u f d v w setup side room i later =
     let second = few_batches 1 u.size v.third.handed v.second.handed i.well_formed.sizes1 in
     let third : 0 + length v.third.handed ≤ last_answer 0 v.third.handed = few_answers v.third.handed 0 [] (λ b g. omega (arith, g.0)) i.answers_rise.rise in
     record {
-      setup = setup;
-      side = record { cpu = side.cpu; samples = side.samples; size = side.size };
+      setup_is = setup;
+      side_is = record { cpu = side.cpu; samples = side.samples; size = side.size };
       room = room;
       holds0 = s.holds0;
       holds1 = s.holds1;
@@ -74,8 +74,8 @@ ready_regain u f d v w (Some t) r held = r
 ready_regain u f d v w None r held =
     cond_both (is_even w) (record d { table = Some (empty_table v.buckets v.turn) }) d (λ (e : Driver). Ready u f e (side_look_table v w))
     (λ even. record {
-      setup = r.setup;
-      side = record { cpu = r.side.cpu; samples = r.side.samples; size = r.side.size };
+      setup_is = r.setup_is;
+      side_is = record { cpu = r.side_is.cpu; samples = r.side_is.samples; size = r.side_is.size };
       room = less_room 2 2 (length (table_entries d.table) + length (active_entries d.pair.active) + 1) (length (entries_in (empty_table v.buckets v.turn)) + length (active_entries d.pair.active) + 1) v.room (omega arith) (omega (arith, ap (λ (z : List Counted). length z) (empty_entries v.buckets v.turn))) r.room;
       holds0 = r.holds0;
       holds1 = r.holds1;
@@ -97,8 +97,8 @@ ready_regain u f d v w None r held =
       all = r.all;
     })
     (λ odd. record {
-      setup = r.setup;
-      side = record { cpu = r.side.cpu; samples = r.side.samples; size = r.side.size };
+      setup_is = r.setup_is;
+      side_is = record { cpu = r.side_is.cpu; samples = r.side_is.samples; size = r.side_is.size };
       room = r.room;
       holds0 = r.holds0;
       holds1 = r.holds1;
@@ -137,40 +137,56 @@ regained_ready u f g d v w e x r is same =
     subst (λ (k : Fixed). Ready u k e x) (sym same) (subst (λ (z : Driver). Ready u f z x) (sym is.0) (subst (λ (z : Side). Ready u f y.driver z) (sym is.1)
     (ready_regain u f d v w d.table r refl)))
 
--- the value heard is still that
-pub regained_heard : (d : Driver) (v : Side) (w : ℕ) (e : Driver) (x : Side) → Is (regain d v w d.table) e x → x.heard ≡ v.heard
-regained_heard d v w e x is = ap (λ (z : Side). z.heard) is.1 ∙ (regain_leaves d v w d.table).heard
-
--- what a turn gives, from what its steps give
-pub turn_given : (u : Setup) (h : Words) (d : Driver) (v : Side) (bell word : ℕ) (e : Driver) (x : Side) (said : Turn) (f : Driver) (y : Side) → d.done ≡ false
-    → Is (regain d (side_hear v bell) word d.table) e x → h.bell ≡ bell → Gives (after_regain u h (record { driver = e; side = x })) said f y → IsFair x h.two
-    → (k : Words) × Gives (turn_of u k (record { driver = d; side = v })) said f y × IsFair v k.two × (k.bell ≡ bell)
-turn_given u h d v bell word e x said f y going is heard gives fair =
-    let k : Words = record { bell = bell; third = word; two = h.two } in
+-- what a turn gives, from what its steps give over these words
+given_at : (u : Setup) (d : Driver) (v : Side) (bell word : ℕ) (two : Two) (e : Driver) (x : Side) (said : Turn) (f : Driver) (y : Side) → d.done ≡ false
+    → Is (regain d (side_hear v bell) word d.table) e x → Gives (after_regain u (record { bell = bell; third = word; two = two }) (record { driver = e; side = x })) said f y
+    → Gives (turn_of u (record { bell = bell; third = word; two = two }) (record { driver = d; side = v })) said f y
+given_at u d v bell word two e x said f y going is gives =
+    let k : Words = record { bell = bell; third = word; two = two } in
     let z = regain d (side_hear v bell) word d.table in
     let same : record { driver = e; side = x } ≡ z = λ i. record { driver = is.0 i; side = is.1 i } in
-    let at : Gives (after_regain u k z) said f y =
-    subst (λ (s : World). Gives (after_regain u k s) said f y) same
-    (subst (λ (n : ℕ). Gives (after_regain u (record { bell = n; third = word; two = h.two }) (record { driver = e; side = x })) said f y) heard gives) in
+    subst (λ (t : Turned). Gives t said f y) (sym (cond-false d.done (ends_with (record { driver = d; side = v }) Done) (after_regain u k z) going))
+    (subst (λ (s : World). Gives (after_regain u k s) said f y) same gives)
+
+-- the look for the table leaves what the buffers were handed
+handed_same : (d : Driver) (v : Side) (bell word : ℕ) (e : Driver) (x : Side) → Is (regain d (side_hear v bell) word d.table) e x → (x.first ≡ v.first) × (x.second ≡ v.second)
+handed_same d v bell word e x is =
     let l = regain_leaves d (side_hear v bell) word d.table in
-    let first : x.first ≡ v.first = ap (λ (s : Side). s.first) is.1 ∙ l.first in
-    let second : x.second ≡ v.second = ap (λ (s : Side). s.second) is.1 ∙ l.second in (
-      k,
-      subst (λ (t : Turned). Gives t said f y) (sym (cond-false d.done (ends_with (record { driver = d; side = v }) Done) (after_regain u k z) going)) at,
-      ((λ odd. fair.0 odd ∙ ap (λ (s : Slot). 2 * length s.handed) first), (λ odd. fair.1 odd ∙ ap (λ (s : Slot). 2 * length s.handed) second)),
+    (ap (λ (s : Side). s.first) is.1 ∙ l.first, ap (λ (s : Side). s.second) is.1 ∙ l.second)
+
+-- what a turn gives over the words that it read
+pub turn_given : (u : Setup) (far : FarSide) (f : FarSide) (d : Driver) (v s : Side) (bell : ℕ) (e : Driver) (x : Side) (said : Turn) (a : Driver) (y : Side) → d.done ≡ false → s ≡ side_hear v bell
+    → OverThird far s (λ word. Is (regain d s word d.table) e x)
+    → OverTwo f x (λ two. (third : ℕ) → Gives (after_regain u (record { bell = bell; third = third; two = two }) (record { driver = e; side = x })) said a y)
+    → (k : Words) × Gives (turn_of u k (record { driver = d; side = v })) said a y × AreFairWords v k.two × (k.bell ≡ bell)
+turn_given u far f d v s bell e x said a y going heard looks after =
+    let word = looks.read.0 in let two = after.read.0 in
+    let is : Is (regain d (side_hear v bell) word d.table) e x = subst (λ (z : Side). Is (regain d z word d.table) e x) heard looks.read.1 in
+    let same = handed_same d v bell word e x is in let fair = after.read.2 in (
+      record { bell = bell; third = word; two = two },
+      given_at u d v bell word two e x said a y going is (after.read.1 word),
+      ((λ odd. fair.0 odd ∙ ap (λ (c : Slot). 2 * length c.handed) same.0), (λ odd. fair.1 odd ∙ ap (λ (c : Slot). 2 * length c.handed) same.1)),
       refl,
     )
 
--- a turn after the close
-pub turn_done : (u : Setup) (d : Driver) (v : Side) → d.done ≡ true → (k : Words) × Gives (turn_of u k (record { driver = d; side = v })) Done d v × IsFair v k.two × (v.heard ≤ k.bell)
-turn_done u d v done =
-    let k : Words = record { bell = v.heard; third = 0; two = no_words } in (
-      k,
-      subst (λ (t : Turned). Gives t Done d v) (sym (cond-true d.done (ends_with (record { driver = d; side = v }) Done) (after_regain u k (regain d (side_hear v k.bell) k.third d.table)) done)) (refl, refl, refl),
-      fair_none v,
-      omega arith,
-    )
+-- the same, over the words that the side tells
+pub turn_told : (u : Setup) (far f : FarSide) (d : Driver) (v s : Side) (bell : ℕ) (e : Driver) (x : Side) (said : Turn) (a : Driver) (y : Side) (g : Given) → d.done ≡ false → s ≡ side_hear v bell
+    → far.given ≡ Some g → f ≡ far
+    → OverThird far s (λ word. Is (regain d s word d.table) e x)
+    → OverTwo f x (λ two. (third : ℕ) → Gives (after_regain u (record { bell = bell; third = third; two = two }) (record { driver = e; side = x })) said a y)
+    → Gives (turn_of u (words_at bell g v) (record { driver = d; side = v })) said a y
+turn_told u far f d v s bell e x said a y g going heard given same looks after =
+    let word = word_of v.third g.third in
+    let third : Is (regain d s (word_of s.third g.third) d.table) e x = looks.told g given in
+    let is : Is (regain d (side_hear v bell) word d.table) e x = subst (λ (z : Side). Is (regain d z (word_of z.third g.third) d.table) e x) heard third in
+    let handed = handed_same d v bell word e x is in
+    let two : two_at g x ≡ two_at g v = λ i. record { first = word_of (handed.0 i) g.first; second = word_of (handed.1 i) g.second } in
+    let gives = after.told g (ap (λ (z : FarSide). z.given) same ∙ given) word in
+    given_at u d v bell word (two_at g v) e x said a y going is
+    (subst (λ (h : Two). Gives (after_regain u (record { bell = bell; third = word; two = h }) (record { driver = e; side = x })) said a y) two gives)
 
--- what a turn heard last
-pub turn_heard : (u : Setup) (k : Words) (d : Driver) (v : Side) (said : Turn) (f : Driver) (y : Side) → d.done ≡ false → Gives (turn_of u k (record { driver = d; side = v })) said f y → y.heard ≡ k.bell
-turn_heard u k d v said f y going gives = ap (λ (s : Side). s.heard) gives.2 ∙ (hears_turn u k d v going).heard
+-- a turn after the close, over any words
+pub turn_done : (u : Setup) (k : Words) (d : Driver) (v : Side) → d.done ≡ true → Gives (turn_of u k (record { driver = d; side = v })) Done d v
+turn_done u k d v done =
+    subst (λ (t : Turned). Gives t Done d v)
+    (sym (cond-true d.done (ends_with (record { driver = d; side = v }) Done) (after_regain u k (regain d (side_hear v k.bell) k.third d.table)) done)) (refl, refl, refl)
