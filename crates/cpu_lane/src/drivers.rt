@@ -501,11 +501,12 @@ impl Driver {
         requires at { self.now.at ≤ MOST_SAMPLES }
         ensures { result ≡ buffer_header (setup_of setup.now) self.now.at b (buffers_of self.now.pair) }
     {
+        let (number, upto) = (self.pair.hands_of(b), self.at as u64);
         Note {
             cpu: setup.cpu,
             cell: b,
-            number: self.pair.hands_of(b),
-            upto: self.at as u64,
+            number,
+            upto,
             answers: 0,
             sent0: self.pair.hands0,
             sent1: self.pair.hands1,

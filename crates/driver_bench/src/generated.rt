@@ -1,5 +1,6 @@
+//! The samples of the benchmark: drawn as those of a machine with eight processes, one kernel and one shared library.
 ghost use Rattle.std.specs.Prelude.{◌≡◌, ◌%◌, ◌^◌, ◌<◌, length, IfOk};
-ghost use Rattle.driver_bench.specs.Plays.{HaveMark};
+ghost use Rattle.driver_tests.specs.Plays.{HaveMark};
 
 use sample_key::{Event, Key, Marked};
 use std::alloc::{AllocError, Global};
@@ -11,6 +12,7 @@ struct Draws {
 }
 
 impl Draws {
+    /// The next number.
     fn next(&mut self) -> u64
         ensures { result < 2 ^ 31 }
     {

@@ -1,11 +1,11 @@
+//! The acceptance tables of the driver, turn by turn.
 ghost use Rattle.std.specs.Prelude.{◌≡◌, ◌+◌, ◌%◌, ◌≤◌, length, IfOk, OnOk};
 ghost use Rattle.driver_model.specs.Handover.{rung_of};
-ghost use Rattle.driver_bench.specs.Plays.{HaveMark};
+ghost use Rattle.driver_tests.specs.Plays.{HaveMark};
 
-use crate::plays::Play;
+use super::Play;
 use cpu_lane::{Plan, Stats, Turn};
-use lane_side::{DaemonSide, PollOf};
-use sample_key::{Body, Entry, Event, Key, Loss, Marked, Pace};
+use sample_key::{Entry, Event, Key, Loss, Marked, Pace};
 use std::alloc::{AllocError, Global};
 use std::test::Fail;
 
@@ -58,41 +58,6 @@ fn turns(play: &mut Play, count: usize) -> usize
         }
     }
     taken
-}
-
-// Takes buffer b where it was handed, copies its entries, and gives it back empty.
-fn copy_buffer(play: &mut Play, b: u8, out: &mut Vec<Entry>) -> Result<(), AllocError>
-    requires { b ≤ 1 }
-    ensures requests { play.new.requests ≡ play.old.requests }
-    ensures rungs { play.new.side.far.rungs ≡ play.old.side.far.rungs }
-{
-    match play.side.poll_buffer(b) {
-        PollOf::Parcel(parcel) => {
-            let mut buffer = parcel.body;
-            let copied = buffer.copy_to(out);
-            buffer.clear();
-            play.side.return_buffer(b, buffer);
-            copied
-        }
-        PollOf::Home(_) => Ok(()),
-    }
-}
-
-// Takes the table where it was handed, copies its entries, and gives it back empty.
-fn copy_table(play: &mut Play, out: &mut Vec<Entry>) -> Result<(), AllocError>
-    ensures requests { play.new.requests ≡ play.old.requests }
-    ensures rungs { play.new.side.far.rungs ≡ play.old.side.far.rungs }
-{
-    match play.side.poll_table() {
-        PollOf::Parcel(parcel) => {
-            let mut table = parcel.body;
-            let copied = table.copy_to(out);
-            table.clear();
-            play.side.return_table(table);
-            copied
-        }
-        PollOf::Home(_) => Ok(()),
-    }
 }
 
 // A lane at the free pace, with so many requests, of a trace with so many records.
@@ -154,13 +119,13 @@ fn a_sample_is_lost_where_both_buffers_are_out(rt: HostRuntime) -> Result<(), Fa
         spilt: 0,
         direct: 0,
     };
-    assert_eq!(rt; play.lane.stats(), stats);
+    assert_eq!(rt; play.stats(), stats);
     let mut out = Vec::new(rt.alloc());
-    copy_buffer(&mut play, 0, &mut out)?;
-    copy_buffer(&mut play, 1, &mut out)?;
+    play.copy_buffer(0, &mut out)?;
+    play.copy_buffer(1, &mut out)?;
     let want = [entry_at(0x1000, 1), entry_at(0x1004, 1)];
     assert_eq!(rt; out.as_slice(), want.as_slice());
-    let losses = play.lane.into_losses();
+    let losses = play.into_losses();
     assert_eq!(rt; losses.len(), 1);
     assert_eq!(rt; Turn::Lost(losses[0]), lost(6));
     Ok(())
@@ -180,7 +145,7 @@ fn the_second_look_finds_a_buffer(rt: HostRuntime) -> Result<(), Fail> {
         spilt: 0,
         direct: 0,
     };
-    assert_eq!(rt; play.lane.stats(), stats);
+    assert_eq!(rt; play.stats(), stats);
     assert_eq!(rt; play.drain(0), true);
     assert_eq!(rt; play.drain(1), true);
     Ok(())
@@ -199,13 +164,13 @@ fn the_largest_entry_is_written(rt: HostRuntime) -> Result<(), Fail> {
         spilt: 1,
         direct: 0,
     };
-    assert_eq!(rt; play.lane.stats(), stats);
+    assert_eq!(rt; play.stats(), stats);
     play.ring(1);
     assert_eq!(rt; play.turn(), Turn::Done);
     assert_eq!(rt; play.turn(), Turn::Done);
     let mut out = Vec::new(rt.alloc());
-    copy_buffer(&mut play, 0, &mut out)?;
-    copy_table(&mut play, &mut out)?;
+    play.copy_buffer(0, &mut out)?;
+    play.copy_table(&mut out)?;
     let want = [entry_at(0x1000, 65_535), entry_at(0x1000, 1)];
     assert_eq!(rt; out.as_slice(), want.as_slice());
     Ok(())
@@ -225,11 +190,11 @@ fn the_largest_entry_stays_where_it_cannot_be_written(rt: HostRuntime) -> Result
         spilt: 0,
         direct: 0,
     };
-    assert_eq!(rt; play.lane.stats(), stats);
+    assert_eq!(rt; play.stats(), stats);
     play.ring(1);
     assert_eq!(rt; play.turn(), Turn::Done);
     let mut out = Vec::new(rt.alloc());
-    copy_table(&mut play, &mut out)?;
+    play.copy_table(&mut out)?;
     assert_eq!(rt; out.len(), 4);
     assert_eq!(rt; out[0], entry_at(0x1010, 65_535));
     Ok(())
@@ -251,9 +216,9 @@ fn samples_go_to_a_buffer_while_the_table_is_out(rt: HostRuntime) -> Result<(), 
         spilt: 0,
         direct: 2,
     };
-    assert_eq!(rt; play.lane.stats(), stats);
+    assert_eq!(rt; play.stats(), stats);
     let mut out = Vec::new(rt.alloc());
-    copy_table(&mut play, &mut out)?;
+    play.copy_table(&mut out)?;
     assert_eq!(rt; out.as_slice(), [entry_at(0x1000, 1)].as_slice());
     Ok(())
 }

@@ -1,3 +1,4 @@
+-- The daemon's calls leave a lane running.
 use Rattle.std.proofs.Common.{◌≡◌, ℕ, zero, suc, ◌+◌, ◌*◌, ◌≤◌, List, [], ◌∷◌, ◌++◌, length, refl, sym, ◌∙◌, ap, subst, arith, false, Some, None, Option, eqb}
 use Rattle.std.specs.Prelude.{IfSome}
 use Rattle.std.proofs.lemmas.Bool.{cond_both}
@@ -5,20 +6,14 @@ use Rattle.driver_model.specs.Sides.{Room, Side}
 use Rattle.sample_key.specs.Sent.{Sent}
 use Rattle.driver_model.specs.Handover.{FarSide, slot_polled, last_from, rung_of, side_poll_buffer, side_poll_table, side_called, far_took_buffer, far_gave_buffer, far_took_table, far_gave_table, far_rang}
 use Rattle.driver_model.specs.Invariant.{DriverInvariant}
-use Rattle.driver_laws.specs.Turns.{hands_in, entries_handed}
-use Rattle.driver_laws.proofs.Polls.{kept_polled, kept_polled_table, kept_called}
+use Rattle.driver_laws.specs.Turns.{hands_in, entries_handed, PollsKeep}
+use Rattle.driver_laws.proofs.Lists.{by_number}
 use Rattle.lane_side.specs.Fixed.{Fixed}
 use Rattle.lane_side.specs.Plain.{Plain}
+use Rattle.lane_side.proofs.Bells.{last-push}
 use Rattle.cpu_lane.specs.Seen.{Seen}
 use Rattle.cpu_lane.specs.Runs.{Runs}
-use Rattle.driver_bench.specs.Plays.{Plays}
-
--- the daemon's calls leave a lane running
-
--- the last value rung
-pub last_push : (n : ℕ) (xs : List ℕ) (x : ℕ) → last_from n (xs ++ x ∷ []) ≡ x
-last_push n [] x = refl
-last_push n (y ∷ ys) x = last_push y ys x
+use Rattle.driver_tests.specs.Plays.{Plays}
 
 -- what the daemon's calls leave of the driver's half
 pub record Leaves (v w : Side) : Type 0 where
@@ -53,32 +48,26 @@ polled_leaves v b w =
     (λ e. record { room = refl; hands = refl; entries = refl; buffer = refl; heard = refl }) (λ e. record { room = refl; hands = refl; entries = refl; buffer = refl; heard = refl })
 
 -- a call that leaves the cells
-pub called : (requests : ℕ) (l : Seen) (v w : Side) (far near : FarSide) (f g : Fixed) → Runs requests l v far f → w ≡ side_called v → rung_of near.rungs ≤ 2 * requests → g ≡ f → Runs requests l w near g
-called requests l v w far near f g r is rung same =
+pub called : PollsKeep → (requests : ℕ) (l : Seen) (v w : Side) (far near : FarSide) (f g : Fixed) → Runs requests l v far f → w ≡ side_called v → rung_of near.rungs ≤ 2 * requests → g ≡ f → Runs requests l w near g
+called keep requests l v w far near f g r is rung same =
     subst (λ (x : Side). Runs requests l x near g) (sym is)
-    (runs_on requests l v (side_called v) far near f g r (kept_called l.setup l.driver v r.invariant)
+    (runs_on requests l v (side_called v) far near f g r (keep.called l.setup l.driver v r.invariant)
     (record { room = refl; hands = refl; entries = refl; buffer = refl; heard = refl }) rung same)
 
 -- a poll of a buffer
-pub polled : (requests : ℕ) (l : Seen) (v w : Side) (b word : ℕ) (far near : FarSide) (f g : Fixed) → Runs requests l v far f → w ≡ side_poll_buffer v b word → near.rungs ≡ far.rungs → g ≡ f → Runs requests l w near g
-polled requests l v w b word far near f g r is rungs same =
+pub polled : PollsKeep → (requests : ℕ) (l : Seen) (v w : Side) (b word : ℕ) (far near : FarSide) (f g : Fixed) → Runs requests l v far f → w ≡ side_poll_buffer v b word → near.rungs ≡ far.rungs → g ≡ f → Runs requests l w near g
+polled keep requests l v w b word far near f g r is rungs same =
     subst (λ (x : Side). Runs requests l x near g) (sym is)
-    (runs_on requests l v (side_poll_buffer v b word) far near f g r (kept_polled l.setup l.driver v b word r.invariant) (polled_leaves v b word)
+    (runs_on requests l v (side_poll_buffer v b word) far near f g r (keep.buffer l.setup l.driver v b word r.invariant) (polled_leaves v b word)
     (subst (λ (rs : List ℕ). rung_of rs ≤ 2 * requests) (sym rungs) r.rung) same)
 
 -- a poll of the table
-pub polled_table : (requests : ℕ) (l : Seen) (v w : Side) (word : ℕ) (far near : FarSide) (f g : Fixed) → Runs requests l v far f → w ≡ side_poll_table v word → near.rungs ≡ far.rungs → g ≡ f → Runs requests l w near g
-polled_table requests l v w word far near f g r is rungs same =
+pub polled_table : PollsKeep → (requests : ℕ) (l : Seen) (v w : Side) (word : ℕ) (far near : FarSide) (f g : Fixed) → Runs requests l v far f → w ≡ side_poll_table v word → near.rungs ≡ far.rungs → g ≡ f → Runs requests l w near g
+polled_table keep requests l v w word far near f g r is rungs same =
     subst (λ (x : Side). Runs requests l x near g) (sym is)
-    (runs_on requests l v (side_poll_table v word) far near f g r (kept_polled_table l.setup l.driver v word r.invariant)
+    (runs_on requests l v (side_poll_table v word) far near f g r (keep.table l.setup l.driver v word r.invariant)
     (record { room = refl; hands = refl; entries = refl; buffer = refl; heard = refl })
     (subst (λ (rs : List ℕ). rung_of rs ≤ 2 * requests) (sym rungs) r.rung) same)
-
--- by the number of a buffer
-by_number : (P : ℕ → Type 0) (n : ℕ) → n ≤ 1 → P 0 → P 1 → P n
-by_number P zero l f g = f
-by_number P (suc zero) l f g = g
-by_number P (suc (suc n)) l f g = absurd (omega arith)
 
 -- the daemon holds nothing, and the rungs are these
 abbrev Idle : List ℕ → FarSide → Type 0
@@ -96,45 +85,45 @@ plays_with requests l s n p runs same idle = record {
 }
 
 -- a poll found nothing
-pub plays_home : (requests : ℕ) (l : Seen) (s n : Plain) (b word : ℕ) → Plays requests l s → n.seen ≡ side_poll_buffer s.seen b word → n.far ≡ s.far → n.fixed ≡ s.fixed → Plays requests l n
-plays_home requests l s n b word p seen far same =
+pub plays_home : PollsKeep → (requests : ℕ) (l : Seen) (s n : Plain) (b word : ℕ) → Plays requests l s → n.seen ≡ side_poll_buffer s.seen b word → n.far ≡ s.far → n.fixed ≡ s.fixed → Plays requests l n
+plays_home keep requests l s n b word p seen far same =
     plays_with requests l s n p
-    (polled requests l s.seen n.seen b word s.far n.far s.fixed n.fixed p.runs seen (ap (λ (f : FarSide). f.rungs) far) same) same
+    (polled keep requests l s.seen n.seen b word s.far n.far s.fixed n.fixed p.runs seen (ap (λ (f : FarSide). f.rungs) far) same) same
     (refl, ap (λ (f : FarSide). f.first.holds) far ∙ p.free0, ap (λ (f : FarSide). f.second.holds) far ∙ p.free1, ap (λ (f : FarSide). f.third.holds) far ∙ p.free2)
 
 -- a buffer was taken and given back
-pub plays_drained : (requests : ℕ) (l : Seen) (s m n : Plain) (b word : ℕ) (x : Sent) → b ≤ 1 → Plays requests l s → m.seen ≡ side_poll_buffer s.seen b word → m.far ≡ far_took_buffer s.far b x → m.fixed ≡ s.fixed
+pub plays_drained : PollsKeep → (requests : ℕ) (l : Seen) (s m n : Plain) (b word : ℕ) (x : Sent) → b ≤ 1 → Plays requests l s → m.seen ≡ side_poll_buffer s.seen b word → m.far ≡ far_took_buffer s.far b x → m.fixed ≡ s.fixed
     → n.seen ≡ side_called m.seen → n.far ≡ far_gave_buffer m.far b → n.fixed ≡ m.fixed → Plays requests l n
-plays_drained requests l s m n b word x number p seen took same called_seen gave again =
+plays_drained keep requests l s m n b word x number p seen took same called_seen gave again =
     let far : n.far ≡ far_gave_buffer (far_took_buffer s.far b x) b = gave ∙ ap (λ (f : FarSide). far_gave_buffer f b) took in
     let idle : Idle s.far.rungs (far_gave_buffer (far_took_buffer s.far b x) b) =
     by_number (λ (k : ℕ). Idle s.far.rungs (far_gave_buffer (far_took_buffer s.far k x) k)) b number (refl, refl, p.free1, p.free2) (refl, p.free0, refl, p.free2) in
     let here : Idle s.far.rungs n.far = subst (λ (f : FarSide). Idle s.far.rungs f) (sym far) idle in
     let rungs : m.far.rungs ≡ s.far.rungs = ap (λ (f : FarSide). f.rungs) took ∙ by_number (λ (k : ℕ). (far_took_buffer s.far k x).rungs ≡ s.far.rungs) b number refl refl in
     plays_with requests l s n p
-    (called requests l m.seen n.seen m.far n.far m.fixed n.fixed (polled requests l s.seen m.seen b word s.far m.far s.fixed m.fixed p.runs seen rungs same) called_seen
+    (called keep requests l m.seen n.seen m.far n.far m.fixed n.fixed (polled keep requests l s.seen m.seen b word s.far m.far s.fixed m.fixed p.runs seen rungs same) called_seen
     (subst (λ (rs : List ℕ). rung_of rs ≤ 2 * requests) (sym here.0) p.runs.rung) again) (again ∙ same) (refl, here.1, here.2, here.3)
 
 -- the table was taken and given back
-pub plays_flushed : (requests : ℕ) (l : Seen) (s m n : Plain) (word turn : ℕ) (x : Sent) → Plays requests l s → m.seen ≡ side_poll_table s.seen word → m.far ≡ far_took_table s.far x turn → m.fixed ≡ s.fixed
+pub plays_flushed : PollsKeep → (requests : ℕ) (l : Seen) (s m n : Plain) (word turn : ℕ) (x : Sent) → Plays requests l s → m.seen ≡ side_poll_table s.seen word → m.far ≡ far_took_table s.far x turn → m.fixed ≡ s.fixed
     → n.seen ≡ side_called m.seen → n.far ≡ far_gave_table m.far → n.fixed ≡ m.fixed → Plays requests l n
-plays_flushed requests l s m n word turn x p seen took same called_seen gave again =
+plays_flushed keep requests l s m n word turn x p seen took same called_seen gave again =
     let far : n.far ≡ far_gave_table (far_took_table s.far x turn) = gave ∙ ap (λ (f : FarSide). far_gave_table f) took in
     let here : Idle s.far.rungs n.far = subst (λ (f : FarSide). Idle s.far.rungs f) (sym far) (refl, p.free0, p.free1, refl) in
     plays_with requests l s n p
-    (called requests l m.seen n.seen m.far n.far m.fixed n.fixed (polled_table requests l s.seen m.seen word s.far m.far s.fixed m.fixed p.runs seen (ap (λ (f : FarSide). f.rungs) took) same) called_seen
+    (called keep requests l m.seen n.seen m.far n.far m.fixed n.fixed (polled_table keep requests l s.seen m.seen word s.far m.far s.fixed m.fixed p.runs seen (ap (λ (f : FarSide). f.rungs) took) same) called_seen
     (subst (λ (rs : List ℕ). rung_of rs ≤ 2 * requests) (sym here.0) p.runs.rung) again) (again ∙ same) (refl, here.1, here.2, here.3)
 
 -- a poll of the table found nothing
-pub plays_home_table : (requests : ℕ) (l : Seen) (s n : Plain) (word : ℕ) → Plays requests l s → n.seen ≡ side_poll_table s.seen word → n.far ≡ s.far → n.fixed ≡ s.fixed → Plays requests l n
-plays_home_table requests l s n word p seen far same =
+pub plays_home_table : PollsKeep → (requests : ℕ) (l : Seen) (s n : Plain) (word : ℕ) → Plays requests l s → n.seen ≡ side_poll_table s.seen word → n.far ≡ s.far → n.fixed ≡ s.fixed → Plays requests l n
+plays_home_table keep requests l s n word p seen far same =
     plays_with requests l s n p
-    (polled_table requests l s.seen n.seen word s.far n.far s.fixed n.fixed p.runs seen (ap (λ (f : FarSide). f.rungs) far) same) same
+    (polled_table keep requests l s.seen n.seen word s.far n.far s.fixed n.fixed p.runs seen (ap (λ (f : FarSide). f.rungs) far) same) same
     (refl, ap (λ (f : FarSide). f.first.holds) far ∙ p.free0, ap (λ (f : FarSide). f.second.holds) far ∙ p.free1, ap (λ (f : FarSide). f.third.holds) far ∙ p.free2)
 
 -- the bell was rung
-pub plays_rung : (requests : ℕ) (l : Seen) (s n : Plain) (value tries : ℕ) → Plays requests l s → value ≤ 2 * requests → n.seen ≡ side_called s.seen → n.far ≡ far_rang s.far value tries → n.fixed ≡ s.fixed → Plays requests l n
-plays_rung requests l s n value tries p few seen far same =
-    let rung : rung_of n.far.rungs ≡ value = ap (λ (f : FarSide). rung_of f.rungs) far ∙ last_push 0 s.far.rungs value in
-    plays_with requests l s n p (called requests l s.seen n.seen s.far n.far s.fixed n.fixed p.runs seen (omega (arith, rung)) same) same
+pub plays_rung : PollsKeep → (requests : ℕ) (l : Seen) (s n : Plain) (value tries : ℕ) → Plays requests l s → value ≤ 2 * requests → n.seen ≡ side_called s.seen → n.far ≡ far_rang s.far value tries → n.fixed ≡ s.fixed → Plays requests l n
+plays_rung keep requests l s n value tries p few seen far same =
+    let rung : rung_of n.far.rungs ≡ value = ap (λ (f : FarSide). rung_of f.rungs) far ∙ last-push 0 s.far.rungs value in
+    plays_with requests l s n p (called keep requests l s.seen n.seen s.far n.far s.fixed n.fixed p.runs seen (omega (arith, rung)) same) same
     (refl, ap (λ (f : FarSide). f.first.holds) far ∙ p.free0, ap (λ (f : FarSide). f.second.holds) far ∙ p.free1, ap (λ (f : FarSide). f.third.holds) far ∙ p.free2)

@@ -1,5 +1,5 @@
 use Rattle.std.proofs.Common.{◌≡◌}
-use Rattle.driver_bench.proofs.tests.turns.Given as goal
+use Rattle.driver_tests.proofs.tests.turns.Given as goal
 
 abbrev pub invariant-loop : goal.invariant-loop
 invariant-loop l =

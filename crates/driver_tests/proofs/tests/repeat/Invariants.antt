@@ -1,6 +1,6 @@
 use Rattle.std.proofs.Common.{◌≡◌, ◌+◌, length}
-use Rattle.driver_bench.specs.Plays.{HaveMark}
-use Rattle.driver_bench.proofs.tests.repeat.Given as goal
+use Rattle.driver_tests.specs.Plays.{HaveMark}
+use Rattle.driver_tests.proofs.tests.repeat.Given as goal
 
 abbrev pub invariant-loop : goal.invariant-loop
 invariant-loop l =

@@ -1,0 +1,3 @@
+-- The lemmas behind the answers.
+pub mod Playing
+pub mod Marking

@@ -1,0 +1,6 @@
+use Rattle.driver_tests.proofs.plays.Play.turn.Goals as goal
+
+pub turn-requires-clause-room : goal.turn-requires-clause-room
+turn-requires-clause-room c =
+    let s = c.self.inside.side in
+    c.running_has_room.ensures c.self.inside.requests c.self.inside.lane s.seen s.far s.fixed c.self.invariant.runs
