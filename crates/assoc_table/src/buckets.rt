@@ -70,6 +70,7 @@ impl Bucket {
     }
 
     // Adds a sample of the key; `victim` is the way to replace next.
+    #[inline(always)]
     pub(crate) fn add(&mut self, key: Key, victim: &mut usize) -> Added
         requires { victim.old < WAYS }
         ensures row { self.new ≡ (row_add self.old key victim.old).row }
@@ -112,6 +113,7 @@ impl Bucket {
 }
 
 // Where the entries have the key.
+#[inline(always)]
 fn find_in(entries: &[Entry], key: &Key) -> Option<usize>
     ensures found { result ≡ way_of entries.now key.now }
     ensures within { IfSome result (λ i. i < length entries.now) }

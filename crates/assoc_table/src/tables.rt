@@ -54,6 +54,7 @@ impl AssocTable {
 
     /// Adds a sample of the key: its entry's count rises or is given out at 65,535; or it takes a free way; or it takes
     /// the way whose turn it is, and that entry is given out.
+    #[inline(always)]
     pub fn add(&mut self, key: Key) -> Added
         ensures table { self.new ≡ (add self.old key).table }
         ensures added { result ≡ (add self.old key).added }
@@ -87,6 +88,7 @@ impl AssocTable {
 }
 
 // The bucket of a key among so many. The usual number is known beforehand, and a division by it costs little.
+#[inline(always)]
 fn bucket(buckets: usize, key: &Key) -> usize
     requires { 1 ≤ buckets }
     ensures place { result ≡ bucket_of buckets key.now }

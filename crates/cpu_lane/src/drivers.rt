@@ -72,6 +72,7 @@ enum Found {
 
 impl Driver {
     // One turn. After the close it does nothing more.
+    #[inline]
     pub(crate) fn step<S: LaneSide>(&mut self, setup: &Setup, side: &mut S) -> Turn
         requires sound { IsSound setup.now self.old }
         requires setup { IsSetup (setup_of setup.now) }
@@ -100,7 +101,7 @@ impl Driver {
     }
 
     // Where the table is not held, looks for it.
-    #[inline]
+    #[inline(always)]
     fn regain<S: LaneSide>(&mut self, side: &mut S)
         requires holds { (S.seen side.old).third.holds ≡ is_some self.old.table }
         ensures step { OverThird (S.far side.old) (S.seen side.old) (λ word.
@@ -121,7 +122,7 @@ impl Driver {
     }
 
     // Goes on after the bell was heard and the table looked for.
-    #[inline]
+    #[inline(always)]
     fn after_regain<S: LaneSide>(&mut self, setup: &Setup, side: &mut S, heard: u64) -> Turn
         requires sound { IsSound setup.now self.old }
         requires ready { Ready (setup_of setup.now) (S.fixed side.old) (driver_of self.old) (S.seen side.old) }
@@ -142,7 +143,7 @@ impl Driver {
     }
 
     // Whether the driver answers this value.
-    #[inline]
+    #[inline(always)]
     fn answers_now(&self, setup: &Setup, heard: u64) -> bool
         requires rising { IsRising setup.now.samples.items }
         ensures { result ≡ answers_now (setup_of setup.now) (driver_of self.now) heard }
@@ -168,7 +169,7 @@ impl Driver {
     }
 
     // The next sample.
-    #[inline]
+    #[inline(always)]
     fn next<'a>(&self, setup: &'a Setup) -> Option<&'a Marked>
         ensures { MatchOption result (drop self.now.at setup.now.samples.items ≡ []) (λ s.
             drop self.now.at setup.now.samples.items
@@ -266,7 +267,7 @@ impl Driver {
     }
 
     // Goes on with the next sample, where the bell value heard is this one: none is left, or it is not due, or it is taken.
-    #[inline]
+    #[inline(always)]
     fn next_sample<S: LaneSide>(&mut self, setup: &Setup, side: &mut S, heard: u64) -> Turn
         requires sound { IsSound setup.now self.old }
         requires ready { Ready (setup_of setup.now) (S.fixed side.old) (driver_of self.old) (S.seen side.old) }
@@ -290,7 +291,7 @@ impl Driver {
     }
 
     // The next sample, of this key, is due.
-    #[inline]
+    #[inline(always)]
     fn take_sample<S: LaneSide>(&mut self, setup: &Setup, side: &mut S, key: &Key) -> Turn
         requires sound { IsSound setup.now self.old }
         requires ready { Ready (setup_of setup.now) (S.fixed side.old) (driver_of self.old) (S.seen side.old) }
@@ -310,7 +311,7 @@ impl Driver {
     }
 
     // The next sample, of this key, is taken, where a buffer is active.
-    #[inline]
+    #[inline(always)]
     fn take_held<S: LaneSide>(&mut self, setup: &Setup, side: &mut S, key: &Key) -> Turn
         requires sound { IsSound setup.now self.old }
         requires active { is_some self.old.pair.active ≡ true }
@@ -363,7 +364,7 @@ impl Driver {
     }
 
     // Counts the next sample, of this key, and gives what is to be written for it, if anything is.
-    #[inline]
+    #[inline(always)]
     fn take_next(&mut self, key: &Key) -> Option<Entry>
         requires { CanCount (driver_of self.old) }
         ensures step { driver_of self.new ≡ take_next (driver_of self.old) key.now self.old.table }
@@ -455,7 +456,7 @@ impl Driver {
     }
 
     // Pushes this entry to the active buffer, in place, and hands the buffer if it is full.
-    #[inline]
+    #[inline(always)]
     fn push<S: LaneSide>(&mut self, setup: &Setup, side: &mut S, entry: Entry)
         requires sound { IsSound setup.now self.old }
         requires space { IsSomeAnd self.old.pair.active HasSpace }
@@ -573,7 +574,7 @@ fn both_out(last: u8, word: u64, before: u64) -> Found
 }
 
 // Counts one sample more in this way, and gives the entry that the table gave out, if any.
-#[inline]
+#[inline(always)]
 fn tally(stats: &mut Stats, added: Added) -> Option<Entry>
     requires { stats.old.folded + stats.old.placed + stats.old.evicted + stats.old.spilt + stats.old.direct ≤ MOST_SAMPLES }
     ensures stats { stats.new ≡ tally stats.old (Some added) }

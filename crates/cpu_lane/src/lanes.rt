@@ -87,6 +87,7 @@ impl Lane {
 
     /// One turn: hears the bell, looks for what it needs, and answers a flush, or takes, loses or holds the next sample. It
     /// makes at most five calls on its side, takes no memory and does not wait. After `Done` the close was answered.
+    #[inline]
     pub fn turn<S: LaneSide>(&mut self, side: &mut S) -> Turn
         requires side { IsSideOf self.old.setup (S.fixed side.old) (S.seen side.old) }
         requires room { HasRoom self.old.driver (S.seen side.old) }

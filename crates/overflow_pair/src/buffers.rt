@@ -38,7 +38,7 @@ impl Buffer {
     }
 
     /// Appends an entry to a buffer that is not full.
-    #[inline]
+    #[inline(always)]
     pub fn push(&mut self, entry: Entry)
         requires { length self.old.entries < self.old.size }
         ensures { self.new ≡ pushed self.old entry }
@@ -50,7 +50,7 @@ impl Buffer {
     }
 
     /// Whether the buffer holds as many entries as it may.
-    #[inline]
+    #[inline(always)]
     pub fn is_full(&self) -> bool
         ensures full { IsTrue result ↔ (length self.now.entries ≡ self.now.size) }
         ensures within { length self.now.entries ≤ self.now.size }

@@ -40,7 +40,7 @@ impl Pair {
     }
 
     /// Appends an entry to the active buffer, in place. Where that is full now, it is taken out and given.
-    #[inline]
+    #[inline(always)]
     pub fn push(&mut self, entry: Entry) -> Option<Buffer>
         requires { IsSomeAnd self.old.active HasSpace }
         ensures pushes { (b : Contents) → self.old.active ≡ Some b → Pushes b entry result self.new.active }
