@@ -1,22 +1,32 @@
 #!/bin/sh
-# Adds the same samples to one lane of the proved driver and to a table of plain Rust, and prints both times and their ratio.
-# usage: bench/driver.sh [SAMPLES [ROUNDS]]; the least time of the rounds counts
+# Takes the same samples on one lane of the proved driver and on one of plain Rust with marks and losses, compares how both
+# counted them, and prints both times, their ratio and the load of the machine, for 200,000, 500,000 and 2,000,000 samples.
+# usage: bench/driver.sh [ROUNDS [SAMPLES..]]; the least time of the rounds counts; it ends with 1 where a ratio is above 1.5
 set -eu
-samples=${1:-2000000}
-rounds=${2:-15}
+rounds=${1:-25}
+[ $# -gt 0 ] && shift
+[ $# -gt 0 ] || set -- 200000 500000 2000000
 top=$(cd "$(dirname "$0")/.." && pwd)
 folder=$(mktemp -d)
 trap 'rm -rf "$folder"' EXIT
 (cd "$top/crates/driver_bench" && rt run -- 1000 >"$folder/build.out" 2>"$folder/build.err") || { cat "$folder/build.err" >&2; exit 1; }
 rustc -O --edition 2021 -o "$folder/plain" "$top/bench/plain_driver.rs"
-"$top/crates/driver_bench/out/driver_bench" "$samples" "$rounds" >"$folder/proved.txt"
-"$folder/plain" "$samples" "$rounds" >"$folder/plain.txt"
-[ "$(head -n 1 "$folder/proved.txt")" = "$(head -n 1 "$folder/plain.txt")" ] || { echo "the two programs disagree" >&2; exit 1; }
-head -n 1 "$folder/proved.txt"
-cat "$folder/proved.txt" "$folder/plain.txt" | awk -v samples="$samples" '
-    /^least/ { least[++n] = $2 }
-    END {
-        printf "proved %d us, %.1f million samples a second\n", least[1], samples / least[1]
-        printf "plain %d us, %.1f million samples a second\n", least[2], samples / least[2]
-        printf "ratio %.2f\n", least[1] / least[2]
-    }'
+status=0
+for samples; do
+    # three turns each, so that a busy moment falls on both
+    for turn in 1 2 3; do
+        "$top/crates/driver_bench/out/driver_bench" "$samples" "$rounds" >"$folder/proved.$turn"
+        "$folder/plain" "$samples" "$rounds" >"$folder/plain.$turn"
+    done
+    [ "$(head -n 1 "$folder/proved.1")" = "$(head -n 1 "$folder/plain.1")" ] || { echo "the two programs disagree at $samples samples" >&2; exit 1; }
+    head -n 1 "$folder/proved.1"
+    proved=$(awk '/^least/ { print $2 }' "$folder"/proved.? | sort -n | head -n 1)
+    plain=$(awk '/^least/ { print $2 }' "$folder"/plain.? | sort -n | head -n 1)
+    awk -v samples="$samples" -v proved="$proved" -v plain="$plain" -v load="$(uptime | sed 's/.*average: *//')" 'BEGIN {
+        printf "proved %d us, %.1f million samples a second\n", proved, samples / proved
+        printf "plain %d us, %.1f million samples a second\n", plain, samples / plain
+        printf "ratio %.2f, load %s\n", proved / plain, load
+        exit proved > 1.5 * plain
+    }' || status=1
+done
+exit $status
