@@ -9,4 +9,6 @@ mod plays;
 pub use plays::Play;
 
 #[cfg(test)]
+mod side_tests;
+#[cfg(test)]
 mod tests;
