@@ -27,7 +27,8 @@ impl Model for AssocTable {
 
     ghost view = { λ t. record { rows = t.rows.items; turn = t.victim } };
 
-    ghost invariant = { λ t. (1 ≤ length t.rows.items) × (length t.rows.items ≤ MOST_BUCKETS) × (t.victim < WAYS) };
+    ghost invariant = { λ t. (1 ≤ length t.rows.items) × (length t.rows.items ≤ MOST_BUCKETS) ×
+        (t.victim < WAYS) };
 }
 
 impl AssocTable {
@@ -77,7 +78,8 @@ impl AssocTable {
     fn copy_rows(&self, out: &mut Vec<Entry>) -> Result<(), AllocError>
         ensures ok { OnOk result (out.new.items ≡ out.old.items ++ entries_in self.now) }
         ensures kept { (more : List Counted) × (out.new.items ≡ out.old.items ++ more) }
-        ensures full { OnErr result (vec_capacity out.old < vec_len out.old + length (entries_in self.now)) }
+        ensures full { OnErr result (vec_capacity out.old < vec_len out.old + length
+            (entries_in self.now)) }
         ensures capacity { vec_capacity out.old ≤ vec_capacity out.new }
     {
         for row in &self.rows {

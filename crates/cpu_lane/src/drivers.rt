@@ -78,7 +78,8 @@ impl Driver {
         requires setup { IsSetup (setup_of setup.now) }
         requires side { IsSideOf (setup_of setup.now) (S.fixed side.old) (S.seen side.old) }
         requires room { HasRoom (driver_of self.old) (S.seen side.old) }
-        requires invariant { DriverInvariant (setup_of setup.now) (driver_of self.old) (S.seen side.old) }
+        requires invariant { DriverInvariant (setup_of setup.now) (driver_of self.old)
+            (S.seen side.old) }
         ensures step { (words : Words) ×
             Gives (turn_of (setup_of setup.now) words (world_of self.old (S.seen side.old)))
             result (driver_of self.new) (S.seen side.new)
@@ -125,7 +126,8 @@ impl Driver {
     #[inline(always)]
     fn after_regain<S: LaneSide>(&mut self, setup: &Setup, side: &mut S, heard: u64) -> Turn
         requires sound { IsSound setup.now self.old }
-        requires ready { Ready (setup_of setup.now) (S.fixed side.old) (driver_of self.old) (S.seen side.old) }
+        requires ready { Ready (setup_of setup.now) (S.fixed side.old) (driver_of self.old)
+            (S.seen side.old) }
         requires heard { heard ≡ (S.seen side.old).heard }
         requires bound { heard ≤ 2 ^ 32 }
         ensures step { OverTwo (S.far side.old) (S.seen side.old) (λ two. (third : ℕ) →
@@ -157,7 +159,8 @@ impl Driver {
     // Whether the driver may answer this value.
     fn may_answer(&self, setup: &Setup, heard: u64) -> bool
         requires rising { IsRising setup.now.samples.items }
-        ensures { result ≡ may_answer (setup_of setup.now) (driver_of self.now) heard setup.now.plan.pace }
+        ensures { result ≡ may_answer (setup_of setup.now)
+            (driver_of self.now) heard setup.now.plan.pace }
     {
         match setup.plan.pace {
             Pace::Free => heard != setup.plan.last || self.at >= setup.samples.len(),
@@ -181,10 +184,12 @@ impl Driver {
     // Answers a flush: first the active buffer is handed, then the table.
     fn answer<S: LaneSide>(&mut self, setup: &Setup, side: &mut S, heard: u64) -> Turn
         requires sound { IsSound setup.now self.old }
-        requires ready { Ready (setup_of setup.now) (S.fixed side.old) (driver_of self.old) (S.seen side.old) }
+        requires ready { Ready (setup_of setup.now) (S.fixed side.old) (driver_of self.old)
+            (S.seen side.old) }
         requires heard { heard ≡ (S.seen side.old).heard }
         requires bound { heard ≤ 2 ^ 32 }
-        ensures step { Gives (answer_with (setup_of setup.now) (world_of self.old (S.seen side.old)) heard
+        ensures step { Gives (answer_with (setup_of setup.now) (world_of self.old
+            (S.seen side.old)) heard
             self.old.table) result (driver_of self.new) (S.seen side.new) }
         ensures sound { IsSound setup.now self.new }
         ensures far { S.far side.new ≡ S.far side.old }
@@ -270,7 +275,8 @@ impl Driver {
     #[inline(always)]
     fn next_sample<S: LaneSide>(&mut self, setup: &Setup, side: &mut S, heard: u64) -> Turn
         requires sound { IsSound setup.now self.old }
-        requires ready { Ready (setup_of setup.now) (S.fixed side.old) (driver_of self.old) (S.seen side.old) }
+        requires ready { Ready (setup_of setup.now) (S.fixed side.old) (driver_of self.old)
+            (S.seen side.old) }
         requires heard { heard ≡ (S.seen side.old).heard }
         ensures step { OverTwo (S.far side.old) (S.seen side.old) (λ two.
             Gives (next_sample (setup_of setup.now) two heard (world_of self.old (S.seen side.old))
@@ -294,7 +300,8 @@ impl Driver {
     #[inline(always)]
     fn take_sample<S: LaneSide>(&mut self, setup: &Setup, side: &mut S, key: &Key) -> Turn
         requires sound { IsSound setup.now self.old }
-        requires ready { Ready (setup_of setup.now) (S.fixed side.old) (driver_of self.old) (S.seen side.old) }
+        requires ready { Ready (setup_of setup.now) (S.fixed side.old) (driver_of self.old)
+            (S.seen side.old) }
         requires due { IsDue (setup_of setup.now) (driver_of self.old) (S.seen side.old) key.now }
         ensures step { OverTwo (S.far side.old) (S.seen side.old) (λ two.
             Gives (take_sample (setup_of setup.now) two (world_of self.old (S.seen side.old)) key.now)
@@ -315,7 +322,8 @@ impl Driver {
     fn take_held<S: LaneSide>(&mut self, setup: &Setup, side: &mut S, key: &Key) -> Turn
         requires sound { IsSound setup.now self.old }
         requires active { is_some self.old.pair.active ≡ true }
-        requires ready { Ready (setup_of setup.now) (S.fixed side.old) (driver_of self.old) (S.seen side.old) }
+        requires ready { Ready (setup_of setup.now) (S.fixed side.old) (driver_of self.old)
+            (S.seen side.old) }
         requires due { IsDue (setup_of setup.now) (driver_of self.old) (S.seen side.old) key.now }
         ensures step { (b : Contents) → self.old.pair.active ≡ Some b →
             Gives (take_held (setup_of setup.now) (world_of self.old (S.seen side.old)) key.now b.entries)
@@ -337,7 +345,8 @@ impl Driver {
     fn take_alone<S: LaneSide>(&mut self, setup: &Setup, side: &mut S, key: &Key) -> Turn
         requires sound { IsSound setup.now self.old }
         requires gone { self.old.pair.active ≡ None }
-        requires ready { Ready (setup_of setup.now) (S.fixed side.old) (driver_of self.old) (S.seen side.old) }
+        requires ready { Ready (setup_of setup.now) (S.fixed side.old) (driver_of self.old)
+            (S.seen side.old) }
         requires due { IsDue (setup_of setup.now) (driver_of self.old) (S.seen side.old) key.now }
         ensures step { OverTwo (S.far side.old) (S.seen side.old) (λ two.
             Gives (take_sample (setup_of setup.now) two (world_of self.old (S.seen side.old)) key.now)
@@ -389,7 +398,8 @@ impl Driver {
     fn write_sample<S: LaneSide>(&mut self, setup: &Setup, side: &mut S, key: &Key) -> Turn
         requires sound { IsSound setup.now self.old }
         requires gone { self.old.pair.active ≡ None }
-        requires ready { Ready (setup_of setup.now) (S.fixed side.old) (driver_of self.old) (S.seen side.old) }
+        requires ready { Ready (setup_of setup.now) (S.fixed side.old) (driver_of self.old)
+            (S.seen side.old) }
         requires due { IsDue (setup_of setup.now) (driver_of self.old) (S.seen side.old) key.now }
         requires needs { needs_write key.now self.old.table ≡ true }
         ensures step { OverTwo (S.far side.old) (S.seen side.old) (λ two.
@@ -414,7 +424,8 @@ impl Driver {
         ensures step { OverTwo (S.far side.old) (S.seen side.old) (λ two.
             Is (look_both two (driver_of self.old) (S.seen side.old) self.old.pair.next)
             (driver_of self.new) (S.seen side.new)) }
-        ensures found { Finds (S.seen side.old).buffer (S.seen side.new) result self.new.pair.active }
+        ensures found { Finds (S.seen side.old).buffer
+            (S.seen side.new) result self.new.pair.active }
         ensures losses { self.new.losses ≡ self.old.losses }
         ensures far { S.far side.new ≡ S.far side.old }
         ensures fixed { S.fixed side.new ≡ S.fixed side.old }
@@ -436,11 +447,14 @@ impl Driver {
         requires free { (slot_of (S.seen side.old) b).holds ≡ false }
         requires before { before ≡ (slot_of (S.seen side.old) (other b)).read }
         requires gone { self.old.pair.active ≡ None }
-        ensures step { Is (looked (driver_of self.old) (S.seen side.old) b (slot_of (S.seen side.new) b).read)
+        ensures step { Is (looked (driver_of self.old) (S.seen side.old) b (slot_of
+            (S.seen side.new) b).read)
             (driver_of self.new) (S.seen side.new) }
         ensures fair { IsFairWord (slot_of (S.seen side.old) b) (slot_of (S.seen side.new) b).read }
-        ensures told { ReadsBuffer (S.seen side.old) (S.far side.old) b (slot_of (S.seen side.new) b).read }
-        ensures found { Finds (S.seen side.old).buffer (S.seen side.new) result self.new.pair.active }
+        ensures told { ReadsBuffer (S.seen side.old) (S.far side.old) b (slot_of
+            (S.seen side.new) b).read }
+        ensures found { Finds (S.seen side.old).buffer
+            (S.seen side.new) result self.new.pair.active }
         ensures losses { self.new.losses ≡ self.old.losses }
         ensures far { S.far side.new ≡ S.far side.old }
         ensures fixed { S.fixed side.new ≡ S.fixed side.old }
@@ -479,7 +493,8 @@ impl Driver {
     fn hand<S: LaneSide>(&mut self, setup: &Setup, side: &mut S, buffer: Buffer)
         requires sound { IsSound setup.now self.old }
         requires gone { self.old.pair.active ≡ None }
-        requires can { CanHand (setup_of setup.now) (S.fixed side.old) (driver_of self.old) (S.seen side.old) buffer }
+        requires can { CanHand (setup_of setup.now) (S.fixed side.old) (driver_of self.old)
+            (S.seen side.old) buffer }
         ensures step { Is (hand_buffer (setup_of setup.now) (driver_of self.old) (S.seen side.old)
             self.old.pair.active_number buffer.entries) (driver_of self.new) (S.seen side.new) }
         ensures sound { IsSound setup.now self.new }
@@ -500,7 +515,8 @@ impl Driver {
         requires counted { 1 ≤ hands_of (buffers_of self.now.pair) b }
         requires cpu { setup.now.cpu ≤ LAST_CPU }
         requires at { self.now.at ≤ MOST_SAMPLES }
-        ensures { result ≡ buffer_header (setup_of setup.now) self.now.at b (buffers_of self.now.pair) }
+        ensures { result ≡ buffer_header (setup_of setup.now) self.now.at b
+            (buffers_of self.now.pair) }
     {
         let (number, upto) = (self.pair.hands_of(b), self.at as u64);
         Note {
@@ -576,7 +592,8 @@ fn both_out(last: u8, word: u64, before: u64) -> Found
 // Counts one sample more in this way, and gives the entry that the table gave out, if any.
 #[inline(always)]
 fn tally(stats: &mut Stats, added: Added) -> Option<Entry>
-    requires { stats.old.folded + stats.old.placed + stats.old.evicted + stats.old.spilt + stats.old.direct ≤ MOST_SAMPLES }
+    requires { stats.old.folded + stats.old.placed + stats.old.evicted + stats.old.spilt
+        + stats.old.direct ≤ MOST_SAMPLES }
     ensures stats { stats.new ≡ tally stats.old (Some added) }
     ensures out { result ≡ given_out added }
 {

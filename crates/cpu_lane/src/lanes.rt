@@ -108,7 +108,8 @@ impl Lane {
         // After Done the close was answered, now or before.
         ensures closed { result ≡ Done → self.new.driver.done ≡ true }
         ensures invariant { DriverInvariant self.new.setup self.new.driver (S.seen side.new) }
-        ensures cause { CauseOf self.old.setup self.old.driver (S.seen side.old) (S.seen side.new) result }
+        ensures cause { CauseOf self.old.setup self.old.driver (S.seen side.old)
+            (S.seen side.new) result }
         ensures few { (S.seen side.new).steps ≤ (S.seen side.old).steps + 5 }
         ensures hears { self.old.driver.done ≡ false →
             (S.seen side.new).hears ≡ (S.seen side.old).hears + 1 }

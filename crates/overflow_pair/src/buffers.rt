@@ -23,7 +23,8 @@ impl Model for Buffer {
 
     ghost view = { λ b. record { entries = b.entries.items; size = b.size } };
 
-    ghost invariant = { λ b. (1 ≤ b.size) × (b.size ≤ MOST_BUFFER) × (vec_len b.entries ≤ b.size) × (b.size ≤ vec_capacity b.entries) };
+    ghost invariant = { λ b. (1 ≤ b.size) × (b.size ≤ MOST_BUFFER) × (vec_len b.entries ≤ b.size)
+        × (b.size ≤ vec_capacity b.entries) };
 }
 
 impl Buffer {

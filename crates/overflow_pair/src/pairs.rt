@@ -43,7 +43,8 @@ impl Pair {
     #[inline(always)]
     pub fn push(&mut self, entry: Entry) -> Option<Buffer>
         requires { IsSomeAnd self.old.active HasSpace }
-        ensures pushes { (b : Contents) → self.old.active ≡ Some b → Pushes b entry result self.new.active }
+        ensures pushes { (b : Contents) → self.old.active ≡ Some b
+            → Pushes b entry result self.new.active }
         ensures rest { self.new ≡ record self.old { active = self.new.active } }
     {
         match &mut self.active {
@@ -63,7 +64,8 @@ impl Pair {
         requires gone { self.old.active ≡ None }
         requires few0 { self.old.hands0 < 2 ^ 62 }
         requires few1 { self.old.hands1 < 2 ^ 62 }
-        ensures pair { buffers_of self.new ≡ pair_handed (buffers_of self.old) self.old.active_number }
+        ensures pair { buffers_of self.new ≡ pair_handed
+            (buffers_of self.old) self.old.active_number }
         ensures gone { self.new.active ≡ None }
     {
         if self.active_number == 0 {
