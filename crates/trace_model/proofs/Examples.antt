@@ -1,18 +1,20 @@
 -- The definitions at worked examples, by computation alone.
 use Rattle.std.specs.Fmt.{digits}
-use Rattle.std.proofs.Common.{◌≡◌, ℕ, ◌+◌, ◌*◌, ◌%◌, ◌++◌, Bool, true, false, List, [], ◌∷◌, Option, Some, None, Result, Ok, Err, refl, codes, length}
+use Rattle.std.proofs.Common.{◌≡◌, ℕ, ◌%◌, ◌++◌, true, List, [], ◌∷◌, Option, Some, None, Result, Ok, Err, refl, codes}
 use Rattle.sample_key.specs.declared.events.Event.{Event}
-use Rattle.sample_key.specs.declared.events.Event.TheVariants.{Cycles, Imiss, Dmiss, Branchmp}
-use Rattle.sample_key.specs.declared.keys.Key.{Key}
+use Rattle.sample_key.specs.declared.events.Event.TheVariants.{Cycles, Imiss}
 use Rattle.trace_model.specs.declared.reasons.TraceWhy.{TraceWhy}
-use Rattle.trace_model.specs.declared.reasons.TraceWhy.TheVariants.{NotHeader, BadWord, AfterEnd, BadNumber, OutOfRange, Unaligned, BadName, NoSuchCpu, ScanTooLate, TooManySamples, TooManyRecords, NoEnd}
-use Rattle.trace_model.specs.declared.notices.Record.TheVariants.{Scan, Load, Unload, Exec, Exit, Kernel, Drain, Merge, Epoch}
+use Rattle.trace_model.specs.declared.reasons.TraceWhy.TheVariants.{NotHeader, BadWord, AfterEnd, BadNumber, OutOfRange, Unaligned, BadName, NoSuchCpu, ScanTooLate}
+use Rattle.trace_model.specs.declared.notices.Record.{Record}
+use Rattle.trace_model.specs.declared.notices.Record.TheVariants.{Load, Unload, Exec, Exit, Kernel, Drain, Merge, Epoch}
 use Rattle.trace_model.specs.declared.notices.Line.{Line}
 use Rattle.trace_model.specs.declared.notices.Line.TheVariants.{Sample, Rec}
-use Rattle.trace_model.specs.Said.{Said, ShortHeader, LongHeader, Sampled, Loaded, Ended, line_text}
+use Rattle.trace_model.specs.Said.{Said, LongHeader, Loaded, Ended, line_text}
 use Rattle.trace_model.specs.Grammar.{verdict, said_by}
-use Rattle.trace_model.specs.Recording.{Recording, recording, images_in_order, are_good, said_in}
-use Rattle.trace_model.specs.Counting.{Known, Unknown, Row, spots_in, rows_text, Spot}
+use Rattle.trace_model.specs.Recording.{recording, are_good, said_in}
+use Rattle.trace_model.specs.Attribution.{place_at}
+use Rattle.trace_model.specs.Parts.{part_of}
+use Rattle.trace_model.specs.Counting.{Known, Unknown, spots_in, rows_text}
 
 abbrev going_on : Result (Said ℕ) TraceWhy → (Said ℕ → Option (Result (Said ℕ) TraceWhy)) → Option (Result (Said ℕ) TraceWhy)
 going_on (Ok said) go = go said
@@ -122,6 +124,42 @@ exec_kernel_stranger = refl
 unloaded : spots_in (recording 1 4096 8192 (codes "A" ∷ []) (Rec (Load 7 0 8 0) ∷ Rec (Unload 7 0 4) ∷ sample 7 0 Cycles refl ∷ sample 7 4 Cycles refl ∷ []) []) 0
     ≡ Unknown 0 Cycles 0 ∷ Known 0 (codes "A") Cycles 4 ∷ []
 unloaded = refl
+
+-- the same address at each moment: before the mapping, in it, after an unload of its front, and after an exec
+abbrev records : List Record
+records = Load 7 0x10000 0x1000 0 ∷ Unload 7 0x10000 4 ∷ Exec 7 0x20000 0x1000 1 ∷ []
+
+not_yet : place_at records 0 7 0x10000 ≡ None
+not_yet = refl
+
+mapped : place_at records 1 7 0x10000 ≡ Some (record { image = 0; offset = 0 })
+mapped = refl
+
+not_of_another_process : place_at records 1 8 0x10000 ≡ None
+not_of_another_process = refl
+
+unmapped : place_at records 2 7 0x10000 ≡ None
+unmapped = refl
+
+behind_the_unload : place_at records 2 7 0x10004 ≡ Some (record { image = 0; offset = 4 })
+behind_the_unload = refl
+
+gone_with_exec : place_at records 3 7 0x10004 ≡ None
+gone_with_exec = refl
+
+mapped_by_exec : place_at records 3 7 0x20ffc ≡ Some (record { image = 1; offset = 0xffc })
+mapped_by_exec = refl
+
+-- a moment past the last record is that of all
+all_in_force : place_at records 9 7 0x20000 ≡ Some (record { image = 1; offset = 0 })
+all_in_force = refl
+
+-- parts end at a merge and at an epoch
+abbrev parted : List Record
+parted = Drain ∷ Merge ∷ Exit 7 ∷ Epoch ∷ Merge ∷ []
+
+parts : part_of parted 0 ∷ part_of parted 1 ∷ part_of parted 2 ∷ part_of parted 3 ∷ part_of parted 4 ∷ part_of parted 5 ∷ [] ≡ 0 ∷ 0 ∷ 1 ∷ 1 ∷ 2 ∷ 3 ∷ []
+parts = refl
 
 -- two epochs
 two_epochs : spots_in (recording 1 4096 8192 (codes "A" ∷ [])

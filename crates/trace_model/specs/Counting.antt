@@ -1,9 +1,10 @@
 -- Counts by place: how many samples lie at each, and their text.
-use Rattle.std.specs.Prelude.{◌≡◌, ℕ, ◌+◌, ◌<◌, ◌==◌, ◌&&◌, nat_lt, Bool, true, false, if◌then◌else◌, List, [], ◌∷◌, ◌++◌, map, codes}
+use Rattle.std.proofs.Props.{props}
+use Rattle.std.specs.Prelude.{◌≡◌, ℕ, ◌<◌, ◌==◌, ◌&&◌, Bool, false, if◌then◌else◌, List, [], ◌∷◌, ◌++◌, map, codes}
 use Rattle.std.specs.declared.option.Option.{Option}
 use Rattle.std.specs.declared.option.Option.TheVariants.{Some, None}
 use Rattle.std.specs.declared.cmp.Ordering.{Ordering}
-use Rattle.std.specs.declared.cmp.Ordering.TheVariants.{Less, Equal, Greater}
+use Rattle.std.specs.declared.cmp.Ordering.TheVariants.{Less, Greater}
 use Rattle.std.specs.Ordering.{nat_cmp, ordering_then}
 use Rattle.std.specs.Cmp.Lexicographic.{slice_cmp}
 use Rattle.std.specs.List.{count_by, flat_map, join_with_byte}
@@ -13,14 +14,13 @@ use Rattle.sample_key.specs.declared.events.Event.{Event}
 use Rattle.sample_key.specs.declared.keys.Key.{Key}
 use Rattle.sample_key.specs.Events.{code_of, name_of}
 use Rattle.trace_model.specs.declared.notices.Record.{Record}
-use Rattle.trace_model.specs.declared.notices.Record.TheVariants.{Scan, Load, Unload, Exec, Exit, Kernel, Drain, Merge, Epoch}
 use Rattle.trace_model.specs.declared.notices.Line.{Line}
 use Rattle.trace_model.specs.declared.notices.Line.TheVariants.{Sample, Rec}
 use Rattle.trace_model.specs.declared.notices.Place.{Place}
 use Rattle.trace_model.specs.declared.count_lists.KnownCount.{KnownCount}
 use Rattle.trace_model.specs.declared.count_lists.UnknownCount.{UnknownCount}
-use Rattle.trace_model.specs.declared.count_lists.Counts.{Counts}
 use Rattle.trace_model.specs.Attribution.{place_after}
+use Rattle.trace_model.specs.Parts.{epoch_after}
 use Rattle.trace_model.specs.Recording.{Recording, name_at}
 
 -- a place that samples are counted at: an offset of an image, or a program counter with no known mapping
@@ -28,21 +28,7 @@ pub data Spot : Type 0 where
   Known : ℕ → List ℕ → Event → ℕ → Spot
   Unknown : ℕ → Event → ℕ → Spot
 
-abbrev pub begins_epoch : Record → Bool
-begins_epoch (Scan pid base size image) = false
-begins_epoch (Load pid base size image) = false
-begins_epoch (Unload pid base size) = false
-begins_epoch (Exec pid base size image) = false
-begins_epoch (Exit pid) = false
-begins_epoch (Kernel base size image) = false
-begins_epoch Drain = false
-begins_epoch Merge = false
-begins_epoch Epoch = true
-
--- the epoch after these records, where the first one is given
-abbrev pub epoch_after : ℕ → List Record → ℕ
-epoch_after first records = first + count_by begins_epoch records
-
+-- where a sample lies that has this place
 abbrev pub spot_at : ℕ → List (List ℕ) → Key → Option Place → Spot
 spot_at epoch images key None = Unknown epoch key.event key.pc
 spot_at epoch images key (Some place) = Known epoch (name_at images place.image) key.event place.offset
@@ -55,7 +41,7 @@ spot_of first images before key = spot_at (epoch_after first before) images key 
 abbrev pub spots_from : ℕ → List (List ℕ) → List Record → List Line → List Spot
 spots_from first images before [] = []
 spots_from first images before (Sample cpu key ∷ lines) = spot_of first images before key ∷ spots_from first images before lines
-spots_from first images before (Rec entry ∷ lines) = spots_from first images (before ++ entry ∷ []) lines
+spots_from first images before (Rec notice ∷ lines) = spots_from first images (before ++ notice ∷ []) lines
 
 -- where the samples of a trace lie, in its order, with epochs from the first one
 abbrev pub spots_in : Recording → ℕ → List Spot
@@ -86,8 +72,9 @@ known_row r = record { spot = Known r.epoch r.image r.event r.offset; count = r.
 abbrev pub unknown_row : UnknownCount → Row
 unknown_row r = record { spot = Unknown r.epoch r.event r.pc; count = r.count }
 
-abbrev pub rows_of : Counts → List Row
-rows_of c = map known_row c.known.items ++ map unknown_row c.unknown.items
+-- the rows of two lists, the known counts first
+abbrev pub rows_in_order : List KnownCount → List UnknownCount → List Row
+rows_in_order known unknown = map known_row known ++ map unknown_row unknown
 
 -- what rows list for a place, 0 where they list nothing
 abbrev pub listed_at : Spot → List Row → ℕ
@@ -99,6 +86,12 @@ abbrev pub Rises : List Row → Type 0
 Rises [] = Unit {0}
 Rises (row ∷ []) = 0 < row.count
 Rises (row ∷ next ∷ rows) = (0 < row.count) × (spot_cmp row.spot next.spot ≡ Less) × Rises (next ∷ rows)
+
+-- rows rise in one way at most
+pub rises_once : (rows : List Row) → IsProp (Rises rows)
+rises_once [] = hlevel props
+rises_once (row ∷ []) = hlevel props
+rises_once (row ∷ next ∷ rows) = hlevel (props, rises_once (next ∷ rows))
 
 -- the rows list each place at which samples lie, with the number of samples that lie there
 pub record AreCountsOf (rows : List Row) (spots : List Spot) : Type 0 where

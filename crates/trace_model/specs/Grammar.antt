@@ -1,5 +1,5 @@
 -- The grammar of a trace: what each line says after those before it, or the first reason why it is refused.
-use Rattle.std.specs.Prelude.{◌≡◌, ◌≢◌, ℕ, ◌+◌, ◌<◌, ◌≤◌, ◌==◌, ◌&&◌, ◌||◌, nat_le, nat_lt, Bool, true, false, not, if◌then◌else◌, List, [], ◌∷◌, ◌++◌, length, codes, unwrap_or}
+use Rattle.std.specs.Prelude.{◌≡◌, ◌≢◌, ℕ, ◌+◌, ◌≤◌, ◌==◌, ◌&&◌, ◌||◌, nat_le, Bool, true, false, not, if◌then◌else◌, List, [], ◌∷◌, ◌++◌, length, codes, unwrap_or}
 use Rattle.std.specs.declared.option.Option.{Option}
 use Rattle.std.specs.declared.option.Option.TheVariants.{Some, None}
 use Rattle.std.specs.declared.result.Result.{Result}
@@ -8,10 +8,12 @@ use Rattle.std.specs.List.{list_all, list_any, count_by, slice_split, AllByRecur
 use Rattle.std.specs.Option.{option_map, is_some}
 use Rattle.std.specs.Str.{bytes_eq}
 use Rattle.sample_key.specs.Events.{event_named}
+use Rattle.sample_key.specs.declared.limits.TheConstants.{MOST_SAMPLES}
 use Rattle.text_num.specs.Lines.{HasNoLineFeed, text_of_lines}
+use Rattle.trace_model.specs.declared.limits.TheConstants.{MOST_LINE_BYTES, MOST_PARTS, MOST_RECORDS, MOST_STEPS}
 use Rattle.trace_model.specs.declared.reasons.TraceWhy.{TraceWhy}
 use Rattle.trace_model.specs.declared.reasons.TraceWhy.TheVariants.{NotHeader, BadWord, AfterEnd, BadNumber, OutOfRange, Unaligned, BadName, NoSuchCpu, ScanTooLate, TooManySamples, TooManyRecords, NoEnd}
-use Rattle.trace_model.specs.Said.{Said, ShortHeader, LongHeader, Sampled, Scanned, Loaded, Unloaded, Executed, Exited, KernelMapped, Drained, Merged, EpochBegun, Ended, Turned, Polled, Advanced, values_of, every, tested, is_spelled, is_within, is_aligned, is_titled, is_sample, is_scan, is_end, is_step, is_record, ends_part, may_precede_scan, cpu_named}
+use Rattle.trace_model.specs.Said.{Said, ShortHeader, LongHeader, Sampled, Scanned, Loaded, Unloaded, Executed, Exited, KernelMapped, Drained, Merged, EpochBegun, Ended, Turned, Polled, Advanced, values_of, every, tested, is_spelled, is_within, is_aligned, is_titled, is_sample, is_scan, is_end, is_step, is_record, is_part_end, may_precede_scan, cpu_named}
 
 -- where a line stands: all that is asked of the lines before it is the list of what they said
 pub data Stage : Type 0 where
@@ -85,14 +87,14 @@ abbrev pub scans_too_late : List (Said ℕ) → Said ℕ → Bool
 scans_too_late before said = is_scan said && not (list_all may_precede_scan before)
 
 abbrev pub is_sample_too_many : List (Said ℕ) → Said ℕ → Bool
-is_sample_too_many before said = is_sample said && nat_le 2000000 (count_by is_sample before)
+is_sample_too_many before said = is_sample said && nat_le MOST_SAMPLES (count_by is_sample before)
 
 -- 65,536 records, of which 1,024 end a part, and 4,000,000 steps
 abbrev pub is_record_too_many : List (Said ℕ) → Said ℕ → Bool
 is_record_too_many before said =
-    if is_step said then nat_le 4000000 (count_by is_step before)
-    else (if ends_part said then nat_le 65536 (count_by is_record before) || nat_le 1024 (count_by ends_part before)
-    else (is_record said && nat_le 65536 (count_by is_record before)))
+    if is_step said then nat_le MOST_STEPS (count_by is_step before)
+    else (if is_part_end said then nat_le MOST_RECORDS (count_by is_record before) || nat_le MOST_PARTS (count_by is_part_end before)
+    else (is_record said && nat_le MOST_RECORDS (count_by is_record before)))
 
 -- the first of these that applies
 abbrev pub first_that_applies : List (TraceWhy × Bool) → Option TraceWhy
@@ -151,7 +153,7 @@ said_by before (line ∷ lines) = where_said (verdict before line) (λ said. sai
 
 -- a line of at most 400 bytes, without its line feed
 abbrev pub IsLine : List ℕ → Type 0
-IsLine bytes = HasNoLineFeed bytes × (length bytes ≤ 400)
+IsLine bytes = HasNoLineFeed bytes × (length bytes ≤ MOST_LINE_BYTES)
 
 -- the bytes are lines that say this, and the end is among them
 pub record Says (bytes : List ℕ) (said : List (Said ℕ)) : Type 0 where
@@ -170,7 +172,7 @@ pub data Refuses (before : List (Said ℕ)) (rest : List ℕ) (why : TraceWhy) :
   -- a piece of a line after the end
   Unfinished : IsLine rest → rest ≢ [] → list_any is_end before ≡ true → why ≡ AfterEnd → Refuses before rest why
   -- more than 400 bytes without a line feed
-  Overlong : (line more : List ℕ) → HasNoLineFeed line → length line ≡ 401 → rest ≡ line ++ more → why ≡ why_no_form (stage_after before) → Refuses before rest why
+  Overlong : (line more : List ℕ) → HasNoLineFeed line → length line ≡ MOST_LINE_BYTES + 1 → rest ≡ line ++ more → why ≡ why_no_form (stage_after before) → Refuses before rest why
 
 -- the first bad line, counted from 1, and the first reason that applies to it
 pub record FirstBad (bytes : List ℕ) (number : ℕ) (why : TraceWhy) : Type 0 where

@@ -1,6 +1,8 @@
 pub mod Attribution
 pub mod Counting
 pub mod Grammar
+pub mod Listed
+pub mod Parts
 pub mod Recording
 pub mod Said
 pub mod Streams

@@ -1,7 +1,8 @@
 -- The samples of each processor, and the records of a trace.
-use Rattle.std.specs.Prelude.{◌≡◌, ℕ, ◌+◌, ◌≤◌, ◌==◌, if◌then◌else◌, List, [], ◌∷◌, length, map}
+use Rattle.std.specs.Prelude.{ℕ, ◌+◌, ◌≤◌, ◌==◌, if◌then◌else◌, List, [], ◌∷◌, length, map}
 use Rattle.std.specs.List.{range_with_len}
 use Rattle.sample_key.specs.declared.keys.Marked.{Marked}
+use Rattle.sample_key.specs.declared.limits.TheConstants.{MOST_SAMPLES}
 use Rattle.sample_key.specs.Marks.{IsRising, MarksUpTo}
 use Rattle.trace_model.specs.declared.notices.Record.{Record}
 use Rattle.trace_model.specs.declared.notices.Line.{Line}
@@ -13,13 +14,13 @@ use Rattle.trace_model.specs.Recording.{Recording}
 abbrev pub stream_from : ℕ → ℕ → List Line → List Marked
 stream_from cpu mark [] = []
 stream_from cpu mark (Sample other key ∷ lines) = if other == cpu then record { key = key; mark = mark } ∷ stream_from cpu mark lines else stream_from cpu mark lines
-stream_from cpu mark (Rec entry ∷ lines) = stream_from cpu (mark + 1) lines
+stream_from cpu mark (Rec notice ∷ lines) = stream_from cpu (mark + 1) lines
 
 -- the records of these lines
 abbrev pub records_from : List Line → List Record
 records_from [] = []
 records_from (Sample cpu key ∷ lines) = records_from lines
-records_from (Rec entry ∷ lines) = entry ∷ records_from lines
+records_from (Rec notice ∷ lines) = notice ∷ records_from lines
 
 -- the samples of a processor of a trace, in the trace's order
 abbrev pub stream_of : ℕ → Recording → List Marked
@@ -37,4 +38,4 @@ records_in r = records_from r.lines
 pub record IsStream (records : ℕ) (samples : List Marked) : Type 0 where
   pub rising : IsRising samples
   pub marks : MarksUpTo records samples
-  pub few : length samples ≤ 2000000
+  pub few : length samples ≤ MOST_SAMPLES

@@ -5,11 +5,18 @@
 #![tactic(auto)]
 
 mod count_lists;
+mod counts;
+mod limits;
 mod notices;
 mod reasons;
 mod recordings;
 
-pub use count_lists::{Counts, KnownCount, UnknownCount};
+pub use count_lists::{KnownCount, UnknownCount};
+pub use counts::Counts;
+pub use limits::{
+    GREATEST_END, MOST_BUCKETS, MOST_CPUS, MOST_ENTRIES, MOST_LINE_BYTES, MOST_PARTS, MOST_RECORDS,
+    MOST_STEPS,
+};
 pub use notices::{Line, Place, Record, Step};
 pub use reasons::TraceWhy;
 pub use recordings::Trace;

@@ -1,3 +1,5 @@
+//! What stands in a trace: samples, the records that the daemon is told, and the steps of a schedule.
+
 use sample_key::Key;
 
 /// What the loader, the kernel and the user tell the daemon, in the order of the trace. Images are named by their index
@@ -50,10 +52,48 @@ pub enum Record {
     Epoch,
 }
 
+impl Record {
+    ghost use Rattle.std.specs.Prelude.{◌≡◌};
+    ghost use Rattle.trace_model.specs.Parts.{begins_epoch, ends_part};
+
+    /// Whether a new epoch begins here.
+    pub fn begins_epoch(&self) -> bool
+        ensures { result ≡ begins_epoch self.now }
+    {
+        match self {
+            Record::Epoch => true,
+            Record::Scan { .. } => false,
+            Record::Load { .. } => false,
+            Record::Unload { .. } => false,
+            Record::Exec { .. } => false,
+            Record::Exit { .. } => false,
+            Record::Kernel { .. } => false,
+            Record::Drain => false,
+            Record::Merge => false,
+        }
+    }
+
+    /// Whether a part of a run ends here: what was gathered is committed.
+    pub fn ends_part(&self) -> bool
+        ensures { result ≡ ends_part self.now }
+    {
+        match self {
+            Record::Merge | Record::Epoch => true,
+            Record::Scan { .. } => false,
+            Record::Load { .. } => false,
+            Record::Unload { .. } => false,
+            Record::Exec { .. } => false,
+            Record::Exit { .. } => false,
+            Record::Kernel { .. } => false,
+            Record::Drain => false,
+        }
+    }
+}
+
 /// A line of a trace's body.
 #[derive(Clone, Copy, Debug, PartialEq, Eq)]
 pub enum Line {
-    /// A sample that was taken on a processor.
+    /// A sample that was taken on a processor, which is below the trace's number of processors.
     Sample { cpu: u32, key: Key },
     /// A record.
     Rec(Record),
@@ -73,6 +113,8 @@ pub enum Step {
 /// Where a program counter lies: an image by its index, and the offset in bytes from its base.
 #[derive(Clone, Copy, Debug, PartialEq, Eq)]
 pub struct Place {
+    /// The index of the image in `Trace::images`.
     pub image: u32,
+    /// Bytes from the base of the mapping.
     pub offset: u64,
 }

@@ -1,5 +1,6 @@
-ghost use Rattle.std.specs.Prelude.{◌≡◌, true, []};
-ghost use Rattle.trace_model.specs.Recording.{recording, said_in, images_in_order, are_good};
+//! A recorded trace as plain data.
+
+ghost use Rattle.trace_model.specs.Recording.{AreGood, InOrder};
 
 use crate::notices::{Line, Step};
 use text_num::Name;
@@ -21,6 +22,6 @@ pub struct Trace {
     pub lines: Vec<Line>,
     /// The steps of a replay, in order.
     pub schedule: Vec<Step>,
-    pub ghost good: { are_good [] (said_in (recording cpus buckets buffer images.items lines.items schedule.items)) ≡ true },
-    pub ghost in_order: { images.items ≡ images_in_order (said_in (recording cpus buckets buffer images.items lines.items schedule.items)) },
+    pub ghost good: { AreGood cpus buckets buffer images.items lines.items schedule.items },
+    pub ghost in_order: { InOrder cpus buckets buffer images.items lines.items schedule.items },
 }
