@@ -13,7 +13,7 @@ use Rattle.trace_model.specs.declared.notices.Line.{Line}
 use Rattle.trace_model.specs.declared.notices.Line.TheVariants.{Sample, Rec}
 use Rattle.trace_model.specs.declared.notices.Step.{Step}
 use Rattle.trace_model.specs.declared.notices.Step.TheVariants.{Lane, Poll, Advance}
-use Rattle.trace_model.specs.Said.{Said, LongHeader, Sampled, Scanned, Loaded, Unloaded, Executed, Exited, KernelMapped, Drained, Merged, EpochBegun, Ended, Turned, Polled, Advanced, line_text, images_named, every, tested, is_within, is_aligned}
+use Rattle.trace_model.specs.Said.{Said, LongHeader, Sampled, Scanned, Loaded, Unloaded, Executed, Exited, KernelMapped, Drained, Merged, EpochBegun, Ended, Turned, Polled, Advanced, line_text, images_named, every, tested, is_within, is_aligned, is_titled}
 use Rattle.trace_model.specs.Grammar.{first_that_applies, value_tests, Says}
 
 -- a trace: its sizes, the names of its images, its body and its schedule
@@ -59,6 +59,10 @@ record_said images Epoch = EpochBegun
 -- a record has the ranges of the format, and its base and length, where it has them, are multiples of 4
 abbrev pub keeps_ranges : Record → Bool
 keeps_ranges notice = every is_within (tested (record_said [] notice)) && every is_aligned (tested (record_said [] notice))
+
+-- the image of a record, where it names one, has a name
+abbrev pub is_named : List (List ℕ) → Record → Bool
+is_named images notice = every is_titled (tested (record_said images notice))
 
 -- what a line of the body says
 abbrev pub line_said : List (List ℕ) → Line → Said ℕ
