@@ -3,7 +3,10 @@ pub mod Forms
 pub mod Images
 pub mod Inverse
 pub mod Joined
+pub mod Keeping
 pub mod Lines
+pub mod Naming
+pub mod Passing
 pub mod Rebuilt
 pub mod Scanned
 pub mod Spelled

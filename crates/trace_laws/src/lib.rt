@@ -1,8 +1,13 @@
-//! Laws of the definitions of a trace: what is written reads as what was written, and an input has one reading.
+//! Laws of the definitions of a trace: what is written reads as what was written, an input has one reading, and what
+//! every trace keeps.
 #![tactic(auto)]
 
+mod kept;
 mod laws;
 mod readings;
 
+pub use kept::{
+    limits_are_kept, places_have_images, processors_are_there, ranges_are_kept, sizes_are_kept,
+};
 pub use laws::trace_text_reads;
 pub use readings::one_reading;
