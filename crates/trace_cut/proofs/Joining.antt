@@ -14,10 +14,9 @@ use Rattle.trace_model.specs.declared.notices.Record.{Record}
 use Rattle.trace_model.specs.declared.notices.Line.{Line}
 use Rattle.trace_model.specs.declared.notices.Line.TheVariants.{Sample, Rec}
 use Rattle.trace_model.specs.declared.recordings.Trace.{Trace}
-use Rattle.trace_model.specs.Streams.{stream_from, records_from, streams_in, records_in}
+use Rattle.trace_model.specs.Streams.{names_below, stream_from, records_from, streams_in, records_in}
 use Rattle.trace_model.specs.Traces.{recording_of}
-use Rattle.trace_cut.specs.Cutting.{empty_lanes, lanes_with, records_with, names_below}
-use Rattle.trace_cut.proofs.Fitting.{fit_of}
+use Rattle.trace_cut.specs.Cutting.{empty_lanes, lanes_with, records_with}
 
 -- the streams of processors from this one on, with what the lines that are left bring to each
 abbrev pub joined : ℕ → ℕ → List (List Marked) → List Line → List (List Marked)
@@ -37,18 +36,18 @@ joined_sample cpu mark (lane ∷ lanes) zero other key left h =
 joined_sample cpu mark (lane ∷ lanes) (suc i) other key left h =
     rw (ne_eqb other cpu (λ e. omega (arith, e, h)), joined_sample (cpu + 1) mark lanes i other key left (omega (arith, h))) refl
 
-joined_record : (cpu mark : ℕ) (lanes : List (List Marked)) (entry : Record) (left : List Line) → joined cpu mark lanes (Rec entry ∷ left) ≡ joined cpu (mark + 1) lanes left
-joined_record cpu mark [] entry left = refl
-joined_record cpu mark (lane ∷ lanes) entry left = rw (joined_record (cpu + 1) mark lanes entry left) refl
+joined_record : (cpu mark : ℕ) (lanes : List (List Marked)) (notice : Record) (left : List Line) → joined cpu mark lanes (Rec notice ∷ left) ≡ joined cpu (mark + 1) lanes left
+joined_record cpu mark [] notice left = refl
+joined_record cpu mark (lane ∷ lanes) notice left = rw (joined_record (cpu + 1) mark lanes notice left) refl
 
 -- a line is taken
 joined_line : (lanes : List (List Marked)) (records : List Record) (line : Line) (left : List Line) → joined 0 (length records) lanes (line ∷ left) ≡ joined 0 (length (records_with records line)) (lanes_with lanes (length records) line) left
 joined_line lanes records (Sample cpu key) left = joined_sample 0 (length records) lanes cpu cpu key left (omega arith)
-joined_line lanes records (Rec entry) left = joined_record 0 (length records) lanes entry left ∙ ap (λ (n : ℕ). joined 0 n lanes left) (sym (length_push records entry))
+joined_line lanes records (Rec notice) left = joined_record 0 (length records) lanes notice left ∙ ap (λ (n : ℕ). joined 0 n lanes left) (sym (length_push records notice))
 
 records_line : (records : List Record) (line : Line) (left : List Line) → records ++ records_from (line ∷ left) ≡ records_with records line ++ records_from left
 records_line records (Sample cpu key) left = refl
-records_line records (Rec entry) left = sym (append_assoc records (entry ∷ []) (records_from left))
+records_line records (Rec notice) left = sym (append_assoc records (notice ∷ []) (records_from left))
 
 -- nothing is left
 joined_end : (cpu mark : ℕ) (lanes : List (List Marked)) → joined cpu mark lanes [] ≡ lanes
@@ -76,17 +75,17 @@ pub record Cuts (t : Trace) (lanes : List (List Marked)) (records : List Record)
   pub lanes_are : length lanes ≡ t.cpus
   pub fit : AllByRecursion (names_below t.cpus) left
 
-pub cut_none : (t : Trace) (lanes : List (List Marked)) (records : List Record) (lines : List Line) → lanes ≡ empty_lanes t.cpus → records ≡ [] → lines ≡ t.lines.items → Cuts t lanes records lines
-cut_none t lanes records lines none empty all = rw (none, empty, all) (record {
+pub cut_none : (t : Trace) → AllByRecursion (names_below t.cpus) t.lines.items → (lanes : List (List Marked)) (records : List Record) (lines : List Line) → lanes ≡ empty_lanes t.cpus → records ≡ [] → lines ≡ t.lines.items → Cuts t lanes records lines
+cut_none t fit lanes records lines none empty all = rw (none, empty, all) (record {
   whole_lanes = joined_start t.cpus t.lines.items;
   whole_records = refl;
   lanes_are = length-map (range_with_len 0 t.cpus) (λ c. []) ∙ length-range_with_len 0 t.cpus;
-  fit = fit_of t;
+  fit = fit;
 })
 
 lanes_alike : (lanes : List (List Marked)) (mark : ℕ) (line : Line) → length (lanes_with lanes mark line) ≡ length lanes
 lanes_alike lanes mark (Sample cpu key) = length-set lanes cpu (unwrap_or (slice_get lanes cpu) [] ++ record { key = key; mark = mark } ∷ [])
-lanes_alike lanes mark (Rec entry) = refl
+lanes_alike lanes mark (Rec notice) = refl
 
 cut_line : (t : Trace) (lanes more : List (List Marked)) (records others : List Record) (line : Line) (left : List Line) → Cuts t lanes records (line ∷ left) → more ≡ lanes_with lanes (length records) line → others ≡ records_with records line → Cuts t more others left
 cut_line t lanes more records others line left c put added = rw (put, added) (record {

@@ -1,3 +1,2 @@
 pub mod Bounding
-pub mod Fitting
 pub mod Joining

@@ -1,10 +1,13 @@
+//! Cuts a trace into the samples of each processor and the records: `cut`, a line at a time.
+
 ghost use Rattle.std.specs.Prelude.{◌≡◌, ◌<◌, List, [], length, map, OnOk, IfOk};
-ghost use Rattle.trace_model.specs.Streams.{streams_in, records_in};
+ghost use Rattle.trace_model.specs.Streams.{names_below, streams_in, records_in};
 ghost use Rattle.trace_model.specs.Traces.{recording_of};
-ghost use Rattle.trace_cut.specs.Cutting.{names_below, lanes_with, records_with, empty_lanes};
+ghost use Rattle.trace_cut.specs.Cutting.{Adds, lanes_in, lanes_with, records_with, empty_lanes};
 
 use sample_key::Marked;
 use std::alloc::{AllocError, Global};
+use trace_laws::processors_are_there;
 use trace_model::{Line, Record, Trace};
 
 /// The samples of a trace, by processor, and its records.
@@ -19,26 +22,16 @@ pub struct Streams {
 
 /// Cuts a trace into the samples of each processor and the records.
 pub fn cut(alloc: Global, trace: &Trace) -> Result<Streams, AllocError>
-    ensures lanes { IfOk result (λ streams. map (λ lane. lane.items) streams.lanes.items ≡ streams_in (recording_of trace.now)) }
-    ensures records { IfOk result (λ streams. streams.records.items ≡ records_in (recording_of trace.now)) }
+    ensures lanes { IfOk result (λ s. lanes_in s.lanes.items ≡ streams_in (recording_of trace.now)) }
+    ensures records { IfOk result (λ s. s.records.items ≡ records_in (recording_of trace.now)) }
 {
+    processors_are_there(trace);
     let mut lanes = empty_lanes(alloc, trace.cpus)?;
     let mut records = Vec::new(alloc);
     for line in &trace.lines {
         take_line(&mut lanes, &mut records, line)?;
     }
     Ok(Streams { lanes, records })
-}
-
-// A list without samples for each of so many processors.
-fn empty_lanes(alloc: Global, cpus: u32) -> Result<Vec<Vec<Marked>>, AllocError>
-    ensures { IfOk result (λ lanes. map (λ lane. lane.items) lanes.items ≡ empty_lanes cpus) }
-{
-    let mut lanes = Vec::new(alloc);
-    for _ in 0..cpus {
-        lanes.push(Vec::new(alloc))?;
-    }
-    Ok(lanes)
 }
 
 // Takes the next line of a trace.
@@ -48,7 +41,7 @@ fn take_line(
     line: &Line,
 ) -> Result<(), AllocError>
     requires { names_below (length lanes.old.items) line.now }
-    ensures lanes { OnOk result (map (λ lane. lane.items) lanes.new.items ≡ lanes_with (map (λ lane. lane.items) lanes.old.items) (length records.old.items) line.now) }
+    ensures lanes { OnOk result (Adds lanes.old.items lanes.new.items records.old.items line.now) }
     ensures records { OnOk result (records.new.items ≡ records_with records.old.items line.now) }
 {
     match line {
@@ -60,9 +53,20 @@ fn take_line(
             lanes[*cpu as usize].push(sample)?;
             Ok(())
         }
-        Line::Rec(entry) => {
-            records.push(*entry)?;
+        Line::Rec(notice) => {
+            records.push(*notice)?;
             Ok(())
         }
     }
+}
+
+// A list without samples for each of so many processors.
+fn empty_lanes(alloc: Global, cpus: u32) -> Result<Vec<Vec<Marked>>, AllocError>
+    ensures { IfOk result (λ lanes. lanes_in lanes.items ≡ empty_lanes cpus) }
+{
+    let mut lanes = Vec::new(alloc);
+    for _ in 0..cpus {
+        lanes.push(Vec::new(alloc))?;
+    }
+    Ok(lanes)
 }
