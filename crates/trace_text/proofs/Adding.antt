@@ -11,12 +11,13 @@ use Rattle.trace_model.specs.declared.notices.Record.{Record}
 use Rattle.trace_model.specs.declared.notices.Record.TheVariants.{Scan, Load, Unload, Exec, Exit, Kernel, Drain, Merge, Epoch}
 use Rattle.trace_model.specs.declared.notices.Line.{Line}
 use Rattle.trace_model.specs.declared.notices.Line.TheVariants.{Rec}
-use Rattle.trace_model.specs.Said.{Said, Sampled, images_named, ends_part, may_precede_scan}
+use Rattle.trace_model.specs.Said.{Said, Sampled, images_named, is_part_end, may_precede_scan}
 use Rattle.trace_model.specs.Grammar.{first_that_applies, value_tests}
 use Rattle.trace_model.specs.Recording.{line_said, record_said, name_at, with_name}
 use Rattle.trace_text.specs.declared.body_state.Body.{Body}
 use Rattle.trace_text.specs.Judging.{size_shown}
-use Rattle.trace_text.specs.Entries.{entry_ends_part, entry_may_precede_scan}
+use Rattle.trace_model.specs.Parts.{ends_part}
+use Rattle.trace_text.specs.Entries.{record_may_precede_scan}
 use Rattle.trace_text.specs.State.{IsSound, Tracks, said_in_body, index_from, is_among, line_is_among}
 use Rattle.trace_text.specs.Taking.{Names, NamesImage, PushesRecord, PushesSample, IsIndexed}
 use Rattle.std.specs.Ordering.{is_eq}
@@ -24,7 +25,7 @@ use Rattle.trace_text.proofs.Index.{found, absent, tied_push, with_known, with_n
 use Rattle.trace_text.proofs.Tracking.{tracks_record, tracks_sample, lines_front, lines_among_more, with_name_front, all_push}
 
 -- the kind of a record does not hang on its image's name
-kind_of : (images : List (List ℕ)) (entry : Record) → (ends_part (record_said images entry) ≡ entry_ends_part entry) × (may_precede_scan (record_said images entry) ≡ entry_may_precede_scan entry)
+kind_of : (images : List (List ℕ)) (entry : Record) → (is_part_end (record_said images entry) ≡ ends_part entry) × (may_precede_scan (record_said images entry) ≡ record_may_precede_scan entry)
 kind_of images (Scan pid base size image) = (refl, refl)
 kind_of images (Load pid base size image) = (refl, refl)
 kind_of images (Unload pid base size) = (refl, refl)
@@ -81,12 +82,12 @@ record_added old mid new said entry s n p passes =
     let kind = kind_of new.images.items entry in (
       record {
         tracks = track_as (said_in_body old ++ record_said new.images.items entry ∷ []) (said_in_body new) new.images.items
-            old.samples new.samples (old.records + 1) new.records (old.parts + cond (ends_part (record_said new.images.items entry)) 1 0) new.parts
+            old.samples new.samples (old.records + 1) new.records (old.parts + cond (is_part_end (record_said new.images.items entry)) 1 0) new.parts
             (old.scans && may_precede_scan (record_said new.images.items entry)) new.scans
             (ap (λ t. said_in_body old ++ t ∷ []) says ∙ sym whole)
             (sym (p.samples ∙ n.kept.samples)) (sym (p.records ∙ ap (λ k. k + 1) n.kept.records))
-            (ap (λ b. old.parts + cond b 1 0) kind.0 ∙ sym (p.parts ∙ ap (λ k. k + cond (entry_ends_part entry) 1 0) n.kept.parts))
-            (ap (λ b. old.scans && b) kind.1 ∙ sym (p.scans ∙ ap (λ b. b && entry_may_precede_scan entry) n.kept.scans))
+            (ap (λ b. old.parts + cond b 1 0) kind.0 ∙ sym (p.parts ∙ ap (λ k. k + cond (ends_part entry) 1 0) n.kept.parts))
+            (ap (λ b. old.scans && b) kind.1 ∙ sym (p.scans ∙ ap (λ b. b && record_may_precede_scan entry) n.kept.scans))
             tracked;
         index = λ name. ap (λ m. get (slice_cmp nat_cmp) m name) p.index ∙ n.kept.index name ∙ ap (λ l. index_from 0 l name) (sym images);
         among = ap (list_all (line_is_among (length new.images.items))) lines ∙ all_push (line_is_among (length new.images.items)) old.lines.items (Rec entry)

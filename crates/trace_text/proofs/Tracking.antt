@@ -14,7 +14,7 @@ use Rattle.trace_model.specs.declared.notices.Line.{Line}
 use Rattle.trace_model.specs.declared.notices.Line.TheVariants.{Sample, Rec}
 use Rattle.sample_key.specs.declared.events.Event.{Event}
 use Rattle.trace_model.specs.declared.reasons.TraceWhy.{TraceWhy}
-use Rattle.trace_model.specs.Said.{Said, Sampled, Scanned, Loaded, Executed, KernelMapped, is_sample, is_record, is_step, ends_part, may_precede_scan, images_named}
+use Rattle.trace_model.specs.Said.{Said, Sampled, Scanned, Loaded, Executed, KernelMapped, is_sample, is_record, is_step, is_part_end, may_precede_scan, images_named}
 use Rattle.trace_model.specs.Grammar.{first_that_applies, value_tests, is_record_too_many}
 use Rattle.trace_model.specs.Recording.{line_said, record_said, name_at, with_name, images_in_order, are_good}
 use Rattle.trace_text.specs.State.{Tracks, is_among, line_is_among}
@@ -94,8 +94,8 @@ with_name_front images name = by (list_any (bytes_eq name) images)
     by false = (name ∷ [], refl, omega arith)
 
 -- a record that passes is one of at most 65,536, and ends one of at most 1,024 parts
-pub room : (said : List (Said ℕ)) (images : List (List ℕ)) (entry : Record) → count_by ends_part said ≤ 1024 → is_record_too_many said (record_said images entry) ≡ false
-    → (count_by is_record said < 65536) × (count_by ends_part said + cond (ends_part (record_said images entry)) 1 0 ≤ 1024)
+pub room : (said : List (Said ℕ)) (images : List (List ℕ)) (entry : Record) → count_by is_part_end said ≤ 1024 → is_record_too_many said (record_said images entry) ≡ false
+    → (count_by is_record said < 65536) × (count_by is_part_end said + cond (is_part_end (record_said images entry)) 1 0 ≤ 1024)
 room said images (Scan pid base size image) p h = (leb-false _ _ h, omega arith)
 room said images (Load pid base size image) p h = (leb-false _ _ h, omega arith)
 room said images (Unload pid base size) p h = (leb-false _ _ h, omega arith)
@@ -135,7 +135,7 @@ at_most_one images all Epoch = omega arith
 pub tracks_record : (said : List (Said ℕ)) (images all : List (List ℕ)) (samples records parts : ℕ) (scans : Bool) (entry : Record)
     → Tracks said images samples records parts scans → first_that_applies (value_tests said (record_said all entry)) ≡ None
     → all ≡ fold with_name images (images_named (record_said all entry))
-    → Tracks (said ++ record_said all entry ∷ []) all samples (records + 1) (parts + cond (ends_part (record_said all entry)) 1 0) (scans && may_precede_scan (record_said all entry))
+    → Tracks (said ++ record_said all entry ∷ []) all samples (records + 1) (parts + cond (is_part_end (record_said all entry)) 1 0) (scans && may_precede_scan (record_said all entry))
 tracks_record said images all samples records parts scans entry t e named =
     let kind = is_record_is all entry in
     let rooms = room said all entry (omega (arith, t.parts_are, t.parts_most)) (passes said (record_said all entry) e).record_room in
@@ -143,7 +143,7 @@ tracks_record said images all samples records parts scans entry t e named =
       images_are = named ∙ ap (λ l. fold with_name l (images_named (record_said all entry))) t.images_are ∙ sym (images_push said (record_said all entry));
       samples_are = t.samples_are ∙ sym (count_push is_sample said (record_said all entry) ∙ ap (λ b. count_by is_sample said + cond b 1 0) kind.1 ∙ omega arith);
       records_are = sym (count_push is_record said (record_said all entry) ∙ ap (λ b. count_by is_record said + cond b 1 0) kind.0 ∙ ap (λ n. n + 1) (sym t.records_are));
-      parts_are = ap (λ n. n + cond (ends_part (record_said all entry)) 1 0) t.parts_are ∙ sym (count_push ends_part said (record_said all entry));
+      parts_are = ap (λ n. n + cond (is_part_end (record_said all entry)) 1 0) t.parts_are ∙ sym (count_push is_part_end said (record_said all entry));
       no_steps = count_push is_step said (record_said all entry) ∙ ap (λ b. count_by is_step said + cond b 1 0) kind.2 ∙ omega (arith, t.no_steps);
       scans_are = ap (λ b. b && may_precede_scan (record_said all entry)) t.scans_are ∙ sym (all_push may_precede_scan said (record_said all entry));
       samples_most = t.samples_most;
@@ -167,7 +167,7 @@ tracks_sample said images samples records parts scans cpu pid pc event t e =
       images_are = t.images_are ∙ sym (images_push said next);
       samples_are = ap (λ n. n + 1) t.samples_are ∙ sym (count_push is_sample said next);
       records_are = t.records_are ∙ sym (count_push is_record said next ∙ omega arith);
-      parts_are = t.parts_are ∙ sym (count_push ends_part said next ∙ omega arith);
+      parts_are = t.parts_are ∙ sym (count_push is_part_end said next ∙ omega arith);
       no_steps = count_push is_step said next ∙ omega (arith, t.no_steps);
       scans_are = sym (all_push may_precede_scan said next ∙ and_false (list_all may_precede_scan said));
       samples_most = omega (arith, leb-false 2000000 (count_by is_sample said) ((passes said next e).sample_room), t.samples_are);

@@ -12,7 +12,7 @@ use Rattle.trace_model.specs.declared.notices.Record.TheVariants.{Scan, Load, Un
 use Rattle.trace_model.specs.declared.notices.Line.{Line}
 use Rattle.trace_model.specs.declared.notices.Line.TheVariants.{Sample, Rec}
 use Rattle.trace_model.specs.declared.notices.Step.{Step}
-use Rattle.trace_model.specs.Said.{Said, Ended, is_sample, is_record, is_step, ends_part, may_precede_scan}
+use Rattle.trace_model.specs.Said.{Said, Ended, is_sample, is_record, is_step, is_part_end, may_precede_scan}
 use Rattle.trace_model.specs.Recording.{line_said, step_said, images_in_order, are_good}
 use Rattle.trace_text.specs.declared.body_state.Body.{Body}
 use Rattle.trace_text.specs.Judging.{size_shown}
@@ -51,7 +51,7 @@ pub record Tracks (said : List (Said ℕ)) (images : List (List ℕ)) (samples r
   pub images_are : images ≡ images_in_order said
   pub samples_are : samples ≡ count_by is_sample said
   pub records_are : records ≡ count_by is_record said
-  pub parts_are : parts ≡ count_by ends_part said
+  pub parts_are : parts ≡ count_by is_part_end said
   pub no_steps : count_by is_step said ≡ 0
   pub scans_are : scans ≡ list_all may_precede_scan said
   pub samples_most : samples ≤ 2000000

@@ -19,7 +19,8 @@ use Rattle.trace_text.specs.declared.body_state.Taken.{Taken}
 use Rattle.trace_text.specs.declared.body_state.Taken.TheVariants as kinds
 use Rattle.trace_text.specs.Forms.{values_shown}
 use Rattle.trace_text.specs.State.{IsSound, said_in_body, index_from, is_among, line_is_among}
-use Rattle.trace_text.specs.Entries.{entry_ends_part, entry_may_precede_scan}
+use Rattle.trace_model.specs.Parts.{ends_part}
+use Rattle.trace_text.specs.Entries.{record_may_precede_scan}
 use Rattle.trace_text.specs.Progress.{SaysNext}
 
 -- a line of the body was taken, or the end
@@ -70,8 +71,8 @@ pub record PushesRecord (old new : Body) (entry : Record) : Type 0 where
   pub lines : new.lines.items ≡ old.lines.items ++ Rec entry ∷ []
   pub samples : new.samples ≡ old.samples
   pub records : new.records ≡ old.records + 1
-  pub parts : new.parts ≡ old.parts + cond (entry_ends_part entry) 1 0
-  pub scans : new.scans ≡ (old.scans && entry_may_precede_scan entry)
+  pub parts : new.parts ≡ old.parts + cond (ends_part entry) 1 0
+  pub scans : new.scans ≡ (old.scans && record_may_precede_scan entry)
 
 pub record PushesSample (old new : Body) (cpu pid pc : ℕ) (event : Event) : Type 0 where
   pub sizes : new.sizes ≡ old.sizes

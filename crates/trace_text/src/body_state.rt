@@ -3,7 +3,7 @@ ghost use Rattle.std.specs.Ordering.{nat_cmp};
 ghost use Rattle.std.specs.Cmp.Lexicographic.{slice_cmp};
 ghost use Rattle.std.specs.BTreeMap.{get};
 ghost use Rattle.trace_model.specs.Grammar.{verdict, verdict_on, value_tests, context_tests, first_that_applies};
-ghost use Rattle.trace_text.specs.Entries.{entry_ends_part, entry_may_precede_scan};
+ghost use Rattle.trace_text.specs.Entries.{record_may_precede_scan};
 
 use crate::body::{
     BodyForm, BodyValues, body_form, is_aligned, is_spelled, is_titled, read_values,
@@ -290,7 +290,7 @@ impl Body {
     {
         self.lines.push(Line::Rec(entry))?;
         self.records += 1;
-        if ends_part(&entry) {
+        if entry.ends_part() {
             self.parts += 1;
         }
         self.scans = self.scans && may_precede_scan(&entry);
@@ -327,24 +327,8 @@ pub fn why_not_read(is_spelled: bool) -> TraceWhy
     }
 }
 
-fn ends_part(entry: &Record) -> bool
-    ensures { result ≡ entry_ends_part entry.now }
-{
-    match entry {
-        Record::Scan { .. } => false,
-        Record::Load { .. } => false,
-        Record::Unload { .. } => false,
-        Record::Exec { .. } => false,
-        Record::Exit { .. } => false,
-        Record::Kernel { .. } => false,
-        Record::Drain => false,
-        Record::Merge => true,
-        Record::Epoch => true,
-    }
-}
-
 fn may_precede_scan(entry: &Record) -> bool
-    ensures { result ≡ entry_may_precede_scan entry.now }
+    ensures { result ≡ record_may_precede_scan entry.now }
 {
     match entry {
         Record::Scan { .. } => true,
