@@ -14,7 +14,7 @@ use Rattle.trace_model.specs.declared.notices.Line.TheVariants.{Rec}
 use Rattle.trace_model.specs.Said.{Said, Sampled, images_named, is_part_end, may_precede_scan}
 use Rattle.trace_model.specs.Grammar.{first_that_applies, value_tests}
 use Rattle.trace_model.specs.Recording.{line_said, record_said, name_at, with_name}
-use Rattle.trace_text.specs.declared.body_state.Body.{Body}
+use Rattle.trace_text.specs.declared.body.Body.{Body}
 use Rattle.trace_text.specs.Judging.{size_shown}
 use Rattle.trace_model.specs.Parts.{ends_part}
 use Rattle.trace_text.specs.Entries.{record_may_precede_scan}
@@ -25,7 +25,7 @@ use Rattle.trace_text.proofs.Index.{found, absent, tied_push, with_known, with_n
 use Rattle.trace_text.proofs.Tracking.{tracks_record, tracks_sample, lines_front, lines_among_more, with_name_front, all_push}
 
 -- the kind of a record does not hang on its image's name
-kind_of : (images : List (List ℕ)) (entry : Record) → (is_part_end (record_said images entry) ≡ ends_part entry) × (may_precede_scan (record_said images entry) ≡ record_may_precede_scan entry)
+kind_of : (images : List (List ℕ)) (notice : Record) → (is_part_end (record_said images notice) ≡ ends_part notice) × (may_precede_scan (record_said images notice) ≡ record_may_precede_scan notice)
 kind_of images (Scan pid base size image) = (refl, refl)
 kind_of images (Load pid base size image) = (refl, refl)
 kind_of images (Unload pid base size) = (refl, refl)
@@ -42,7 +42,7 @@ front_of images [] h = ([], sym (append-nil images))
 front_of images (name ∷ []) h = let f = with_name_front images name in (f.0, f.1)
 front_of images (name ∷ other ∷ names) h = absurd (omega arith)
 
-one_image : (images : List (List ℕ)) (entry : Record) → length (images_named (record_said images entry)) ≤ 1
+one_image : (images : List (List ℕ)) (notice : Record) → length (images_named (record_said images notice)) ≤ 1
 one_image images (Scan pid base size image) = omega arith
 one_image images (Load pid base size image) = omega arith
 one_image images (Unload pid base size) = omega arith
@@ -54,9 +54,9 @@ one_image images Merge = omega arith
 one_image images Epoch = omega arith
 
 -- what the lines said before, by the images after
-said_before : (old new : List (List ℕ)) (entry : Record) (lines : List Line) → new ≡ fold with_name old (images_named (record_said new entry)) → list_all (line_is_among (length old)) lines ≡ true
+said_before : (old new : List (List ℕ)) (notice : Record) (lines : List Line) → new ≡ fold with_name old (images_named (record_said new notice)) → list_all (line_is_among (length old)) lines ≡ true
     → (map (line_said new) lines ≡ map (line_said old) lines) × (length old ≤ length new)
-said_before old new entry lines e among = let f = front_of old (images_named (record_said new entry)) (one_image new entry) in
+said_before old new notice lines e among = let f = front_of old (images_named (record_said new notice)) (one_image new notice) in
     let is : new ≡ old ++ f.0 = e ∙ f.1 in
     (ap (λ (l : List (List ℕ)). map (line_said l) lines) is ∙ lines_front old f.0 lines among, omega (arith, ap length is, length-append old f.0))
 
@@ -64,42 +64,42 @@ track_as : (said said' : List (Said ℕ)) (images : List (List ℕ)) (a a' b b' 
 track_as said said' images a a' b b' c c' d d' p q r s t h = coe 0 1 (i. Tracks (p i) images (q i) (r i) (s i) (t i)) h
 
 -- a record was added
-pub record_added : (old mid new : Body) (said : Said ℕ) (entry : Record) → IsSound old → Names old mid said entry → PushesRecord mid new entry → first_that_applies (value_tests (said_in_body old) said) ≡ None
+pub record_added : (old mid new : Body) (said : Said ℕ) (notice : Record) → IsSound old → Names old mid said notice → PushesRecord mid new notice → first_that_applies (value_tests (said_in_body old) said) ≡ None
     → IsSound new × (new.sizes ≡ old.sizes) × (said_in_body new ≡ said_in_body old ++ said ∷ [])
-record_added old mid new said entry s n p passes =
+record_added old mid new said notice s n p passes =
     let images : new.images.items ≡ mid.images.items = ap (λ v. v.items) p.images in
-    let says : record_said new.images.items entry ≡ said = ap (λ l. record_said l entry) images ∙ n.says in
-    let named : new.images.items ≡ fold with_name old.images.items (images_named (record_said new.images.items entry))
+    let says : record_said new.images.items notice ≡ said = ap (λ l. record_said l notice) images ∙ n.says in
+    let named : new.images.items ≡ fold with_name old.images.items (images_named (record_said new.images.items notice))
     = images ∙ n.images ∙ ap (λ t. fold with_name old.images.items (images_named t)) (sym says) in
-    let lines : new.lines.items ≡ old.lines.items ++ Rec entry ∷ [] = p.lines ∙ ap (λ v. v.items ++ Rec entry ∷ []) n.kept.lines in
-    let before = said_before old.images.items new.images.items entry old.lines.items named s.among in
+    let lines : new.lines.items ≡ old.lines.items ++ Rec notice ∷ [] = p.lines ∙ ap (λ v. v.items ++ Rec notice ∷ []) n.kept.lines in
+    let before = said_before old.images.items new.images.items notice old.lines.items named s.among in
     let whole : said_in_body new ≡ said_in_body old ++ said ∷ []
     = (λ i. size_shown (p.sizes i) ∷ map (line_said new.images.items) (lines i))
-    ∙ (λ i. size_shown (n.kept.sizes i) ∷ map-append (line_said new.images.items) old.lines.items (Rec entry ∷ []) i)
+    ∙ (λ i. size_shown (n.kept.sizes i) ∷ map-append (line_said new.images.items) old.lines.items (Rec notice ∷ []) i)
     ∙ (λ i. size_shown old.sizes ∷ (before.0 i ++ says i ∷ [])) in
-    let tracked = tracks_record (said_in_body old) old.images.items new.images.items old.samples old.records old.parts old.scans entry s.tracks
+    let tracked = tracks_record (said_in_body old) old.images.items new.images.items old.samples old.records old.parts old.scans notice s.tracks
     (subst (λ t. first_that_applies (value_tests (said_in_body old) t) ≡ None) (sym says) passes) named in
-    let kind = kind_of new.images.items entry in (
+    let kind = kind_of new.images.items notice in (
       record {
-        tracks = track_as (said_in_body old ++ record_said new.images.items entry ∷ []) (said_in_body new) new.images.items
-            old.samples new.samples (old.records + 1) new.records (old.parts + cond (is_part_end (record_said new.images.items entry)) 1 0) new.parts
-            (old.scans && may_precede_scan (record_said new.images.items entry)) new.scans
+        tracks = track_as (said_in_body old ++ record_said new.images.items notice ∷ []) (said_in_body new) new.images.items
+            old.samples new.samples (old.records + 1) new.records (old.parts + cond (is_part_end (record_said new.images.items notice)) 1 0) new.parts
+            (old.scans && may_precede_scan (record_said new.images.items notice)) new.scans
             (ap (λ t. said_in_body old ++ t ∷ []) says ∙ sym whole)
             (sym (p.samples ∙ n.kept.samples)) (sym (p.records ∙ ap (λ k. k + 1) n.kept.records))
-            (ap (λ b. old.parts + cond b 1 0) kind.0 ∙ sym (p.parts ∙ ap (λ k. k + cond (ends_part entry) 1 0) n.kept.parts))
-            (ap (λ b. old.scans && b) kind.1 ∙ sym (p.scans ∙ ap (λ b. b && record_may_precede_scan entry) n.kept.scans))
+            (ap (λ b. old.parts + cond b 1 0) kind.0 ∙ sym (p.parts ∙ ap (λ k. k + cond (ends_part notice) 1 0) n.kept.parts))
+            (ap (λ b. old.scans && b) kind.1 ∙ sym (p.scans ∙ ap (λ b. b && record_may_precede_scan notice) n.kept.scans))
             tracked;
         index = λ name. ap (λ m. get (slice_cmp nat_cmp) m name) p.index ∙ n.kept.index name ∙ ap (λ l. index_from 0 l name) (sym images);
-        among = ap (list_all (line_is_among (length new.images.items))) lines ∙ all_push (line_is_among (length new.images.items)) old.lines.items (Rec entry)
-            ∙ and_from _ _ (lines_among_more (length old.images.items) (length new.images.items) old.lines.items before.1 s.among) (ap (λ l. is_among (length l) entry) images ∙ n.among);
-        lines_are = ap length lines ∙ omega (arith, length-append old.lines.items (Rec entry ∷ []), s.lines_are, p.samples, n.kept.samples, p.records, n.kept.records);
+        among = ap (list_all (line_is_among (length new.images.items))) lines ∙ all_push (line_is_among (length new.images.items)) old.lines.items (Rec notice)
+            ∙ and_from _ _ (lines_among_more (length old.images.items) (length new.images.items) old.lines.items before.1 s.among) (ap (λ l. is_among (length l) notice) images ∙ n.among);
+        lines_are = ap length lines ∙ omega (arith, length-append old.lines.items (Rec notice ∷ []), s.lines_are, p.samples, n.kept.samples, p.records, n.kept.records);
       },
       p.sizes ∙ n.kept.sizes,
       whole,
     )
 
 -- a sample was added
-pub sample_added : (old new : Body) (cpu pid pc : ℕ) (event : Event) → IsSound old → PushesSample old new cpu pid pc event → first_that_applies (value_tests (said_in_body old) (Sampled cpu pid pc event)) ≡ None
+pub sample_added : (old new : Body) (cpu pid pc : ℕ) (event : Event) → IsSound old → PushesSample old new (Sampled cpu pid pc event) → first_that_applies (value_tests (said_in_body old) (Sampled cpu pid pc event)) ≡ None
     → IsSound new × (new.sizes ≡ old.sizes) × (said_in_body new ≡ said_in_body old ++ Sampled cpu pid pc event ∷ [])
 sample_added old new cpu pid pc event s p passes =
     let images : new.images.items ≡ old.images.items = ap (λ v. v.items) p.images in

@@ -1,25 +1,25 @@
 -- One line of the body: judged, and taken.
-use Rattle.std.proofs.Common.{◌≡◌, ℕ, ◌<◌, Bool, true, false, List, [], ◌∷◌, ◌++◌, map, refl, ap, sym, subst, ◌∙◌, arith, Option, Some, None, Ok, Err, if◌then◌else◌}
+use Rattle.std.proofs.Common.{◌≡◌, ℕ, ◌%◌, ◌<◌, Bool, true, false, List, [], ◌∷◌, map, refl, ap, sym, subst, ◌∙◌, arith, Option, Some, None, Ok, Err, if◌then◌else◌}
 use Rattle.std.specs.List.{list_any, count_by}
-use Rattle.std.proofs.lemmas.Bool.{leb-false, or_parts, false≢true}
-use Rattle.sample_key.specs.declared.events.Event.{Event}
+use Rattle.std.proofs.lemmas.Bool.{eqb-true, leb-false, or_parts}
 use Rattle.trace_model.specs.declared.reasons.TraceWhy.{TraceWhy}
 use Rattle.trace_model.specs.declared.reasons.TraceWhy.TheVariants.{BadWord, BadNumber, OutOfRange, Unaligned, BadName}
 use Rattle.trace_model.specs.declared.notices.Record.TheVariants.{Scan, Load, Unload, Exec, Exit, Kernel, Drain, Merge, Epoch}
 use Rattle.trace_model.specs.declared.notices.Line.{Line}
 use Rattle.trace_model.specs.declared.notices.Line.TheVariants.{Sample, Rec}
-use Rattle.trace_model.specs.Said.{Said, Ended, every, tested, is_spelled, is_aligned, is_titled, is_record, is_end, values_of}
+use Rattle.trace_model.specs.Said.{Said, Ended, every, tested, is_spelled, is_aligned, is_titled, is_record, is_sample, is_end, values_of}
 use Rattle.trace_model.specs.Grammar.{verdict, verdict_on, verdict_of_form, stage_after, form_at, body_of, cut_at_spaces, AtBody, AtSchedule, why_no_form, judged, first_that_applies, value_tests, context_tests, is_record_too_many}
 use Rattle.trace_model.specs.Recording.{line_said}
-use Rattle.trace_text.specs.declared.body.BodyValues.{BodyValues}
-use Rattle.trace_text.specs.declared.body.BodyValues.TheVariants as values
-use Rattle.trace_text.specs.declared.body_state.Body.{Body}
-use Rattle.trace_text.specs.Forms.{values_shown, read_field}
-use Rattle.trace_text.specs.State.{IsSound, said_in_body}
-use Rattle.trace_text.specs.declared.body_state.Taken.{Taken}
-use Rattle.trace_text.specs.declared.body_state.Taken.TheVariants as kinds
-use Rattle.trace_text.specs.Taking.{PushesSample, Adds, TakesLine}
-use Rattle.trace_text.proofs.Adding.{sample_added}
+use Rattle.trace_model.specs.declared.limits.TheConstants.{MOST_RECORDS}
+use Rattle.sample_key.specs.declared.limits.TheConstants.{MOST_SAMPLES}
+use Rattle.trace_text.specs.declared.body_lines.NoticeLine.TheVariants as notices
+use Rattle.trace_text.specs.declared.body_lines.SampleLine.{SampleLine}
+use Rattle.trace_text.specs.declared.body.Body.{Body}
+use Rattle.trace_text.specs.Forms.{BodyValues, NoticeValues, notice_values, sample_values, values_shown, read_field}
+use Rattle.trace_text.specs.State.{FaultOf, IsSound, Passes, said_in_body}
+use Rattle.trace_text.specs.declared.body.Taken.{Taken}
+use Rattle.trace_text.specs.declared.body.Taken.TheVariants as kinds
+use Rattle.trace_text.specs.Taking.{Adds, IsIndexed, TakesLine}
 use Rattle.trace_text.proofs.Judged.{not_spelled, not_within, not_aligned, not_titled, by_context, all_pass, passes}
 
 none_some : {A : Type 0} (x : A) → None ≡ Some x → ⊥
@@ -73,39 +73,42 @@ module _ (before : List (Said ℕ)) (raw : Said (List ℕ)) where
         (ap (λ s. first_that_applies (context_tests before s)) (sym read.1) ∙ sym c))
 
 -- what is said against the values is what is said against their kind
-pub by_kind : (b : Body) (v w : BodyValues) (x : Option TraceWhy) → v ≡ w → x ≡ first_that_applies (context_tests (said_in_body b) (values_shown w)) → x ≡ first_that_applies (context_tests (said_in_body b) (values_shown v))
-by_kind b v w x e h = h ∙ ap (λ (u : BodyValues). first_that_applies (context_tests (said_in_body b) (values_shown u))) (sym e)
+pub by_kind : (b : Body) (v w : NoticeValues) (x : Option TraceWhy) → v ≡ w → FaultOf (said_in_body b) (notice_values w) x → FaultOf (said_in_body b) (notice_values v) x
+by_kind b v w x e h = h ∙ ap (λ (u : NoticeValues). first_that_applies (context_tests (said_in_body b) (notice_values u))) (sym e)
 
--- values that are neither the end nor a sample are a record
-pub entry_of_values : (v : BodyValues) → (v ≡ values.End → ⊥) → ((cpu pid pc : ℕ) (event : Event) → v ≡ values.Sample cpu pid pc event → ⊥) → is_record (values_shown v) ≡ true
-entry_of_values (values.Sample cpu pid pc event) e s = absurd (s cpu pid pc event refl)
-entry_of_values (values.Scan m) e s = refl
-entry_of_values (values.Load m) e s = refl
-entry_of_values (values.Unload pid base size) e s = refl
-entry_of_values (values.Exec m) e s = refl
-entry_of_values (values.Exit pid) e s = refl
-entry_of_values (values.Kernel base size image) e s = refl
-entry_of_values values.Drain e s = refl
-entry_of_values values.Merge e s = refl
-entry_of_values values.Epoch e s = refl
-entry_of_values values.End e s = absurd (e refl)
+pub by_line : (b : Body) (v w : BodyValues) (x : Option TraceWhy) → v ≡ w → FaultOf (said_in_body b) (values_shown w) x → FaultOf (said_in_body b) (values_shown v) x
+by_line b v w x e h = h ∙ ap (λ (u : BodyValues). first_that_applies (context_tests (said_in_body b) (values_shown u))) (sym e)
 
 -- a record that passes is one of at most 65,536
-few : (before : List (Said ℕ)) (v : BodyValues) → is_record (values_shown v) ≡ true → is_record_too_many before (values_shown v) ≡ false → count_by is_record before < 65536
-few before (values.Sample cpu pid pc event) r h = absurd (false≢true r)
-few before (values.Scan m) r h = leb-false _ _ h
-few before (values.Load m) r h = leb-false _ _ h
-few before (values.Unload pid base size) r h = leb-false _ _ h
-few before (values.Exec m) r h = leb-false _ _ h
-few before (values.Exit pid) r h = leb-false _ _ h
-few before (values.Kernel base size image) r h = leb-false _ _ h
-few before values.Drain r h = leb-false _ _ h
-few before values.Merge r h = leb-false _ _ (or_parts _ _ h).0
-few before values.Epoch r h = leb-false _ _ (or_parts _ _ h).0
-few before values.End r h = absurd (false≢true r)
+few : (before : List (Said ℕ)) (v : NoticeValues) → is_record_too_many before (notice_values v) ≡ false → count_by is_record before < MOST_RECORDS
+few before (notices.Scan m) h = leb-false _ _ h
+few before (notices.Load m) h = leb-false _ _ h
+few before (notices.Unload pid base size) h = leb-false _ _ h
+few before (notices.Exec m) h = leb-false _ _ h
+few before (notices.Exit pid) h = leb-false _ _ h
+few before (notices.Kernel base size image) h = leb-false _ _ h
+few before notices.Drain h = leb-false _ _ h
+few before notices.Merge h = leb-false _ _ (or_parts _ _ h).0
+few before notices.Epoch h = leb-false _ _ (or_parts _ _ h).0
 
-pub few_records : (b : Body) (v : BodyValues) → IsSound b → is_record (values_shown v) ≡ true → first_that_applies (value_tests (said_in_body b) (values_shown v)) ≡ None → b.records < 65536
-few_records b v s r p = omega (arith, few (said_in_body b) v r ((passes (said_in_body b) (values_shown v) p).record_room), s.tracks.records_are)
+pub few_records : (b : Body) (v : NoticeValues) → IsSound b → Passes (said_in_body b) (notice_values v) → b.records < MOST_RECORDS
+few_records b v s p = omega (arith, few (said_in_body b) v ((passes (said_in_body b) (notice_values v) p).record_room), s.tracks.records_are)
+
+-- a sample that passes has room, and its address is a multiple of 4
+pub sample_fits : (b : Body) (s : SampleLine ℕ ℕ) → IsSound b → Passes (said_in_body b) (sample_values s) → (b.samples < MOST_SAMPLES) × (s.pc % 4 ≡ 0)
+sample_fits b s sound p = let q = passes (said_in_body b) (sample_values s) p in
+    (omega (arith, leb-false MOST_SAMPLES (count_by is_sample (said_in_body b)) q.sample_room, sound.tracks.samples_are), eqb-true (s.pc % 4) 0 q.aligned)
+
+-- a record that passes has room, and its image has a name
+pub notice_fits : (b : Body) (v : NoticeValues) → IsSound b → Passes (said_in_body b) (notice_values v) → IsIndexed b × (every is_titled (tested (notice_values v)) ≡ true)
+notice_fits b v sound p = ((sound.index, omega (arith, few_records b v sound p, sound.tracks.few_images)), (passes (said_in_body b) (notice_values v) p).titled)
+
+-- the values of a line pass where the line does
+pub passes_as : (before : List (Said ℕ)) (v w : BodyValues) → v ≡ w → Passes before (values_shown v) → Passes before (values_shown w)
+passes_as before v w e h = subst (λ (u : BodyValues). Passes before (values_shown u)) e h
+
+pub adds_as : (taken : Taken) (old new : Body) (v w : BodyValues) → v ≡ w → Adds taken old (values_shown w) new → Adds taken old (values_shown v) new
+adds_as taken old new v w e h = subst (λ (u : BodyValues). Adds taken old (values_shown u) new) (sym e) h
 
 -- no line of the body is the end
 no_end_in : (images : List (List ℕ)) (lines : List Line) → list_any is_end (map (line_said images) lines) ≡ false
@@ -134,13 +137,6 @@ by_form b line raw e = ap (λ s. verdict_of_form (said_in_body b) (form_at s (cu
 pub by_no_form : (b : Body) (line : List ℕ) → None ≡ body_of (cut_at_spaces line) → verdict (said_in_body b) line ≡ Err BadWord
 by_no_form b line e = ap (λ s. verdict_of_form (said_in_body b) (form_at s (cut_at_spaces line))) (stage_is b) ∙ ap (λ o. verdict_of_form (said_in_body b) o) (sym e)
     ∙ ap (λ s. Err (why_no_form s)) (stage_is b)
-
--- a sample was taken
-pub sample_taken : (old new : Body) (v : BodyValues) (cpu pid pc : ℕ) (event : Event) → v ≡ values.Sample cpu pid pc event → IsSound old → PushesSample old new cpu pid pc event
-    → first_that_applies (value_tests (said_in_body old) (values_shown v)) ≡ None → IsSound new × (new.sizes ≡ old.sizes) × (said_in_body new ≡ said_in_body old ++ values_shown v ∷ [])
-sample_taken old new v cpu pid pc event e s p t =
-    let a = sample_added old new cpu pid pc event s p (subst (λ (w : BodyValues). first_that_applies (value_tests (said_in_body old) (values_shown w)) ≡ None) e t) in
-    (a.0, a.1, a.2 ∙ ap (λ (w : BodyValues). said_in_body old ++ values_shown w ∷ []) (sym e))
 
 -- what was taken says the line
 pub takes : (taken : Taken) (old new : Body) (line : List ℕ) (raw : Said (List ℕ)) (said : Said ℕ) → Some raw ≡ body_of (cut_at_spaces line) → verdict_on (said_in_body old) raw ≡ Ok said

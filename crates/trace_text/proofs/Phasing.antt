@@ -13,9 +13,9 @@ use Rattle.trace_model.specs.Said.{Said, Ended, is_end, is_step}
 use Rattle.trace_model.specs.Grammar.{verdict, FirstBad}
 use Rattle.std.specs.Option.{IfSome}
 use Rattle.trace_model.specs.Recording.{line_said, Recording, Reads, said_in, images_in_order}
-use Rattle.trace_text.specs.declared.body_state.Body.{Body}
-use Rattle.trace_text.specs.declared.body_state.Taken.{Taken}
-use Rattle.trace_text.specs.declared.body_state.Taken.TheVariants as kinds
+use Rattle.trace_text.specs.declared.body.Body.{Body}
+use Rattle.trace_text.specs.declared.body.Taken.{Taken}
+use Rattle.trace_text.specs.declared.body.Taken.TheVariants as kinds
 use Rattle.trace_text.specs.declared.refusals.LineRefusal.{LineRefusal}
 use Rattle.trace_text.specs.declared.refusals.LineRefusal.TheVariants as lines
 use Rattle.trace_text.specs.declared.refusals.TraceRefusal.{TraceRefusal}

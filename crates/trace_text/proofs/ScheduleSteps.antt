@@ -1,18 +1,19 @@
 -- One line of the schedule: judged, and taken.
-use Rattle.std.proofs.Common.{◌≡◌, ℕ, ◌+◌, ◌<◌, ◌||◌, Bool, true, false, cond, List, [], ◌∷◌, ◌++◌, length, map, refl, ap, sym, subst, ◌∙◌, arith, Some, None, Ok, Err, if◌then◌else◌, nat_le, append_assoc}
+use Rattle.std.proofs.Common.{◌≡◌, ℕ, ◌+◌, ◌<◌, ◌||◌, Bool, true, false, cond, List, [], ◌∷◌, ◌++◌, length, map, refl, ap, sym, subst, ◌∙◌, arith, Some, None, Ok, Err, if◌then◌else◌, append_assoc}
 use Rattle.std.specs.List.{list_any, count_by, fold}
 use Rattle.std.proofs.lemmas.Bool.{leb-false}
 use Rattle.std.proofs.lemmas.List.{map-append, length-append}
 use Rattle.std.proofs.lemmas.List.Folds.{list_any-append}
-use Rattle.trace_model.specs.declared.reasons.TraceWhy.TheVariants.{AfterEnd, NoSuchCpu, TooManyRecords}
+use Rattle.trace_model.specs.declared.reasons.TraceWhy.TheVariants.{AfterEnd}
 use Rattle.trace_model.specs.declared.notices.Step.{Step}
 use Rattle.trace_model.specs.declared.notices.Step.TheVariants.{Lane, Poll, Advance}
 use Rattle.trace_model.specs.Said.{Said, Ended, every, tested, is_aligned, is_titled, is_step, is_end, images_named}
 use Rattle.trace_model.specs.Grammar.{verdict, verdict_on, verdict_of_form, stage_after, form_at, step_of, cut_at_spaces, AtBody, AtSchedule, why_no_form, first_that_applies, value_tests, context_tests}
 use Rattle.trace_model.specs.Recording.{step_said, with_name, images_in_order, are_good}
-use Rattle.trace_text.specs.declared.body_state.Body.{Body}
+use Rattle.trace_text.specs.declared.body.Body.{Body}
 use Rattle.trace_text.specs.State.{AreSteps, said_in_body, said_with_steps}
-use Rattle.trace_text.specs.Stepping.{step_fault}
+use Rattle.trace_model.specs.declared.limits.TheConstants.{MOST_STEPS}
+use Rattle.trace_text.specs.Faults.{cpu_fault, number_fault, step_fault}
 use Rattle.trace_text.specs.Progress.{SaysNext}
 use Rattle.trace_text.proofs.Judged.{passes}
 use Rattle.trace_text.proofs.Tracking.{count_push, images_push, good_push}
@@ -37,9 +38,9 @@ by_no_step_form b steps line e = ap (λ s. verdict_of_form (said_with_steps b st
 
 -- what the lines before it say against a step
 pub step_context : (b : Body) (steps : List Step) (n : ℕ) (step : Step) → AreSteps b steps → n ≡ length steps → step_fault b.sizes.cpus n step ≡ first_that_applies (context_tests (said_with_steps b steps) (step_said step))
-step_context b steps n (Lane cpu) s e = ap (λ k. if nat_le b.sizes.cpus cpu then Some NoSuchCpu else (if nat_le 4000000 k then Some TooManyRecords else None)) (e ∙ s.steps_are)
-step_context b steps n (Poll cpu cell) s e = ap (λ k. if nat_le b.sizes.cpus cpu then Some NoSuchCpu else (if nat_le 4000000 k then Some TooManyRecords else None)) (e ∙ s.steps_are)
-step_context b steps n Advance s e = ap (λ k. if nat_le 4000000 k then Some TooManyRecords else None) (e ∙ s.steps_are)
+step_context b steps n (Lane cpu) s e = ap (λ k. cpu_fault b.sizes.cpus k cpu) (e ∙ s.steps_are)
+step_context b steps n (Poll cpu cell) s e = ap (λ k. cpu_fault b.sizes.cpus k cpu) (e ∙ s.steps_are)
+step_context b steps n Advance s e = ap number_fault (e ∙ s.steps_are)
 
 pub step_aligned : (step : Step) → true ≡ every is_aligned (tested (step_said step))
 step_aligned (Lane cpu) = refl
@@ -56,7 +57,7 @@ is_step_is (Lane cpu) = (refl, refl)
 is_step_is (Poll cpu cell) = (refl, refl)
 is_step_is Advance = (refl, refl)
 
-room_for : (said : List (Said ℕ)) (step : Step) → first_that_applies (value_tests said (step_said step)) ≡ None → count_by is_step said < 4000000
+room_for : (said : List (Said ℕ)) (step : Step) → first_that_applies (value_tests said (step_said step)) ≡ None → count_by is_step said < MOST_STEPS
 room_for said (Lane cpu) e = leb-false _ _ (passes said (step_said (Lane cpu)) e).record_room
 room_for said (Poll cpu cell) e = leb-false _ _ (passes said (step_said (Poll cpu cell)) e).record_room
 room_for said Advance e = leb-false _ _ (passes said (step_said Advance) e).record_room

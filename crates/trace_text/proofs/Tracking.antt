@@ -14,6 +14,8 @@ use Rattle.trace_model.specs.declared.notices.Line.{Line}
 use Rattle.trace_model.specs.declared.notices.Line.TheVariants.{Sample, Rec}
 use Rattle.sample_key.specs.declared.events.Event.{Event}
 use Rattle.trace_model.specs.declared.reasons.TraceWhy.{TraceWhy}
+use Rattle.sample_key.specs.declared.limits.TheConstants.{MOST_SAMPLES}
+use Rattle.trace_model.specs.declared.limits.TheConstants.{MOST_PARTS, MOST_RECORDS}
 use Rattle.trace_model.specs.Said.{Said, Sampled, Scanned, Loaded, Executed, KernelMapped, is_sample, is_record, is_step, is_part_end, may_precede_scan, images_named}
 use Rattle.trace_model.specs.Grammar.{first_that_applies, value_tests, is_record_too_many}
 use Rattle.trace_model.specs.Recording.{line_said, record_said, name_at, with_name, images_in_order, are_good}
@@ -49,7 +51,7 @@ name_at_front [] more i h = absurd (omega arith)
 name_at_front (image ∷ images) more zero h = refl
 name_at_front (image ∷ images) more (suc i) h = name_at_front images more i (omega arith)
 
-said_front : (images more : List (List ℕ)) (entry : Record) → is_among (length images) entry ≡ true → record_said (images ++ more) entry ≡ record_said images entry
+said_front : (images more : List (List ℕ)) (notice : Record) → is_among (length images) notice ≡ true → record_said (images ++ more) notice ≡ record_said images notice
 said_front images more (Scan pid base size image) h = ap (λ n. Scanned pid base size n) (name_at_front images more image (ltb-true _ _ h))
 said_front images more (Load pid base size image) h = ap (λ n. Loaded pid base size n) (name_at_front images more image (ltb-true _ _ h))
 said_front images more (Unload pid base size) h = refl
@@ -62,14 +64,14 @@ said_front images more Epoch h = refl
 
 line_front : (images more : List (List ℕ)) (line : Line) → line_is_among (length images) line ≡ true → line_said (images ++ more) line ≡ line_said images line
 line_front images more (Sample cpu key) h = refl
-line_front images more (Rec entry) h = said_front images more entry h
+line_front images more (Rec notice) h = said_front images more notice h
 
 -- what the lines say stays
 pub lines_front : (images more : List (List ℕ)) (lines : List Line) → list_all (line_is_among (length images)) lines ≡ true → map (line_said (images ++ more)) lines ≡ map (line_said images) lines
 lines_front images more [] h = refl
 lines_front images more (line ∷ lines) h = let a = and_parts _ _ h in λ i. line_front images more line a.0 i ∷ lines_front images more lines a.1 i
 
-among_more : (m n : ℕ) (entry : Record) → m ≤ n → is_among m entry ≡ true → is_among n entry ≡ true
+among_more : (m n : ℕ) (notice : Record) → m ≤ n → is_among m notice ≡ true → is_among n notice ≡ true
 among_more m n (Scan pid base size image) le h = lt-ltb image n (omega (arith, ltb-true image m h))
 among_more m n (Load pid base size image) le h = lt-ltb image n (omega (arith, ltb-true image m h))
 among_more m n (Unload pid base size) le h = refl
@@ -83,7 +85,7 @@ among_more m n Epoch le h = refl
 pub lines_among_more : (m n : ℕ) (lines : List Line) → m ≤ n → list_all (line_is_among m) lines ≡ true → list_all (line_is_among n) lines ≡ true
 lines_among_more m n [] le h = refl
 lines_among_more m n (Sample cpu key ∷ lines) le h = lines_among_more m n lines le h
-lines_among_more m n (Rec entry ∷ lines) le h = let a = and_parts _ _ h in and_from _ _ (among_more m n entry le a.0) (lines_among_more m n lines le a.1)
+lines_among_more m n (Rec notice ∷ lines) le h = let a = and_parts _ _ h in and_from _ _ (among_more m n notice le a.0) (lines_among_more m n lines le a.1)
 
 -- the names after one more are those before with at most one behind them
 pub with_name_front : (images : List (List ℕ)) (name : List ℕ) → (more : List (List ℕ)) × (with_name images name ≡ images ++ more) × (length more ≤ 1)
@@ -94,8 +96,8 @@ with_name_front images name = by (list_any (bytes_eq name) images)
     by false = (name ∷ [], refl, omega arith)
 
 -- a record that passes is one of at most 65,536, and ends one of at most 1,024 parts
-pub room : (said : List (Said ℕ)) (images : List (List ℕ)) (entry : Record) → count_by is_part_end said ≤ 1024 → is_record_too_many said (record_said images entry) ≡ false
-    → (count_by is_record said < 65536) × (count_by is_part_end said + cond (is_part_end (record_said images entry)) 1 0 ≤ 1024)
+pub room : (said : List (Said ℕ)) (images : List (List ℕ)) (notice : Record) → count_by is_part_end said ≤ MOST_PARTS → is_record_too_many said (record_said images notice) ≡ false
+    → (count_by is_record said < MOST_RECORDS) × (count_by is_part_end said + cond (is_part_end (record_said images notice)) 1 0 ≤ MOST_PARTS)
 room said images (Scan pid base size image) p h = (leb-false _ _ h, omega arith)
 room said images (Load pid base size image) p h = (leb-false _ _ h, omega arith)
 room said images (Unload pid base size) p h = (leb-false _ _ h, omega arith)
@@ -106,7 +108,7 @@ room said images Drain p h = (leb-false _ _ h, omega arith)
 room said images Merge p h = let o = or_parts _ _ h in (leb-false _ _ o.0, omega (arith, leb-false _ _ o.1))
 room said images Epoch p h = let o = or_parts _ _ h in (leb-false _ _ o.0, omega (arith, leb-false _ _ o.1))
 
-is_record_is : (images : List (List ℕ)) (entry : Record) → (is_record (record_said images entry) ≡ true) × (is_sample (record_said images entry) ≡ false) × (is_step (record_said images entry) ≡ false)
+is_record_is : (images : List (List ℕ)) (notice : Record) → (is_record (record_said images notice) ≡ true) × (is_sample (record_said images notice) ≡ false) × (is_step (record_said images notice) ≡ false)
 is_record_is images (Scan pid base size image) = (refl, refl, refl)
 is_record_is images (Load pid base size image) = (refl, refl, refl)
 is_record_is images (Unload pid base size) = (refl, refl, refl)
@@ -120,7 +122,7 @@ is_record_is images Epoch = (refl, refl, refl)
 named : (images : List (List ℕ)) (name : List ℕ) → length (with_name images name) ≤ length images + 1
 named images name = let f = with_name_front images name in omega (arith, ap length f.1, length-append images f.0, f.2)
 
-at_most_one : (images : List (List ℕ)) (all : List (List ℕ)) (entry : Record) → length (fold with_name images (images_named (record_said all entry))) ≤ length images + 1
+at_most_one : (images : List (List ℕ)) (all : List (List ℕ)) (notice : Record) → length (fold with_name images (images_named (record_said all notice))) ≤ length images + 1
 at_most_one images all (Scan pid base size image) = named images (name_at all image)
 at_most_one images all (Load pid base size image) = named images (name_at all image)
 at_most_one images all (Unload pid base size) = omega arith
@@ -132,25 +134,25 @@ at_most_one images all Merge = omega arith
 at_most_one images all Epoch = omega arith
 
 -- a record more
-pub tracks_record : (said : List (Said ℕ)) (images all : List (List ℕ)) (samples records parts : ℕ) (scans : Bool) (entry : Record)
-    → Tracks said images samples records parts scans → first_that_applies (value_tests said (record_said all entry)) ≡ None
-    → all ≡ fold with_name images (images_named (record_said all entry))
-    → Tracks (said ++ record_said all entry ∷ []) all samples (records + 1) (parts + cond (is_part_end (record_said all entry)) 1 0) (scans && may_precede_scan (record_said all entry))
-tracks_record said images all samples records parts scans entry t e named =
-    let kind = is_record_is all entry in
-    let rooms = room said all entry (omega (arith, t.parts_are, t.parts_most)) (passes said (record_said all entry) e).record_room in
+pub tracks_record : (said : List (Said ℕ)) (images all : List (List ℕ)) (samples records parts : ℕ) (scans : Bool) (notice : Record)
+    → Tracks said images samples records parts scans → first_that_applies (value_tests said (record_said all notice)) ≡ None
+    → all ≡ fold with_name images (images_named (record_said all notice))
+    → Tracks (said ++ record_said all notice ∷ []) all samples (records + 1) (parts + cond (is_part_end (record_said all notice)) 1 0) (scans && may_precede_scan (record_said all notice))
+tracks_record said images all samples records parts scans notice t e named =
+    let kind = is_record_is all notice in
+    let rooms = room said all notice (omega (arith, t.parts_are, t.parts_most)) (passes said (record_said all notice) e).record_room in
     record {
-      images_are = named ∙ ap (λ l. fold with_name l (images_named (record_said all entry))) t.images_are ∙ sym (images_push said (record_said all entry));
-      samples_are = t.samples_are ∙ sym (count_push is_sample said (record_said all entry) ∙ ap (λ b. count_by is_sample said + cond b 1 0) kind.1 ∙ omega arith);
-      records_are = sym (count_push is_record said (record_said all entry) ∙ ap (λ b. count_by is_record said + cond b 1 0) kind.0 ∙ ap (λ n. n + 1) (sym t.records_are));
-      parts_are = ap (λ n. n + cond (is_part_end (record_said all entry)) 1 0) t.parts_are ∙ sym (count_push is_part_end said (record_said all entry));
-      no_steps = count_push is_step said (record_said all entry) ∙ ap (λ b. count_by is_step said + cond b 1 0) kind.2 ∙ omega (arith, t.no_steps);
-      scans_are = ap (λ b. b && may_precede_scan (record_said all entry)) t.scans_are ∙ sym (all_push may_precede_scan said (record_said all entry));
+      images_are = named ∙ ap (λ l. fold with_name l (images_named (record_said all notice))) t.images_are ∙ sym (images_push said (record_said all notice));
+      samples_are = t.samples_are ∙ sym (count_push is_sample said (record_said all notice) ∙ ap (λ b. count_by is_sample said + cond b 1 0) kind.1 ∙ omega arith);
+      records_are = sym (count_push is_record said (record_said all notice) ∙ ap (λ b. count_by is_record said + cond b 1 0) kind.0 ∙ ap (λ n. n + 1) (sym t.records_are));
+      parts_are = ap (λ n. n + cond (is_part_end (record_said all notice)) 1 0) t.parts_are ∙ sym (count_push is_part_end said (record_said all notice));
+      no_steps = count_push is_step said (record_said all notice) ∙ ap (λ b. count_by is_step said + cond b 1 0) kind.2 ∙ omega (arith, t.no_steps);
+      scans_are = ap (λ b. b && may_precede_scan (record_said all notice)) t.scans_are ∙ sym (all_push may_precede_scan said (record_said all notice));
       samples_most = t.samples_most;
       records_most = omega (arith, rooms.0, t.records_are);
       parts_most = omega (arith, rooms.1, t.parts_are);
-      few_images = omega (arith, t.few_images, ap length named, at_most_one images all entry);
-      good = good_push [] said (record_said all entry) t.good e;
+      few_images = omega (arith, t.few_images, ap length named, at_most_one images all notice);
+      good = good_push [] said (record_said all notice) t.good e;
     }
 
 and_false : (b : Bool) → (b && false) ≡ false
@@ -170,7 +172,7 @@ tracks_sample said images samples records parts scans cpu pid pc event t e =
       parts_are = t.parts_are ∙ sym (count_push is_part_end said next ∙ omega arith);
       no_steps = count_push is_step said next ∙ omega (arith, t.no_steps);
       scans_are = sym (all_push may_precede_scan said next ∙ and_false (list_all may_precede_scan said));
-      samples_most = omega (arith, leb-false 2000000 (count_by is_sample said) ((passes said next e).sample_room), t.samples_are);
+      samples_most = omega (arith, leb-false MOST_SAMPLES (count_by is_sample said) ((passes said next e).sample_room), t.samples_are);
       records_most = t.records_most;
       parts_most = t.parts_most;
       few_images = t.few_images;

@@ -27,7 +27,7 @@ use Rattle.trace_text.specs.Writing.{header_text, sizes_text}
 named_within : (images : List (List ℕ)) (index : ℕ) → is_name (name_at images index) ≡ true → nat_lt index (length images) ≡ true
 named_within images index h = lt-ltb index (length images) (named_below images index h)
 
-record_among : (images : List (List ℕ)) (entry : Record) → every is_titled (tested (record_said images entry)) ≡ true → is_among (length images) entry ≡ true
+record_among : (images : List (List ℕ)) (notice : Record) → every is_titled (tested (record_said images notice)) ≡ true → is_among (length images) notice ≡ true
 record_among images (Scan process base size image) h = named_within images image h
 record_among images (Load process base size image) h = named_within images image h
 record_among images (Unload process base size) h = refl
@@ -40,7 +40,7 @@ record_among images Epoch h = refl
 
 line_among : (images : List (List ℕ)) (line : Line) → every is_titled (tested (line_said images line)) ≡ true → line_is_among (length images) line ≡ true
 line_among images (Sample cpu key) h = refl
-line_among images (Rec entry) h = record_among images entry h
+line_among images (Rec notice) h = record_among images notice h
 
 lines_among : (before : List (Said ℕ)) (images : List (List ℕ)) (lines : List Line) (rest : List (Said ℕ)) → are_good before (map (line_said images) lines ++ rest) ≡ true → list_all (line_is_among (length images)) lines ≡ true
 lines_among before images [] rest h = refl

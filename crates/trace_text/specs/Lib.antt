@@ -1,4 +1,5 @@
 pub mod Entries
+pub mod Faults
 pub mod Forms
 pub mod Judging
 pub mod Phases

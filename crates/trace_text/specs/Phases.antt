@@ -1,14 +1,35 @@
 -- One line of each part of a trace, as it was read from the input.
-use Rattle.std.specs.Prelude.{◌≡◌, ℕ, Bool, true, false, List, [], ◌∷◌, ◌++◌}
+use Rattle.std.specs.Prelude.{◌≡◌, ℕ, ◌+◌, ◌≤◌, Bool, true, false, List, [], ◌∷◌, ◌++◌}
 use Rattle.std.specs.declared.option.Option.{Option}
-use Rattle.std.specs.Io.KnownBytes.{IsAtEnd}
+use Rattle.std.specs.Io.KnownBytes.{IsAtEnd, prepend_known}
 use Rattle.trace_model.specs.declared.notices.Step.{Step}
 use Rattle.trace_model.specs.Said.{Ended}
-use Rattle.trace_text.specs.declared.body_state.Body.{Body}
-use Rattle.trace_text.specs.declared.body_state.Taken.{Taken}
-use Rattle.trace_text.specs.declared.body_state.Taken.TheVariants as kinds
+use Rattle.trace_text.specs.declared.body.Body.{Body}
+use Rattle.trace_text.specs.declared.body.Taken.{Taken}
+use Rattle.trace_text.specs.declared.body.Taken.TheVariants as kinds
+use Rattle.trace_text.specs.declared.headers.Sizes.{Sizes}
+use Rattle.trace_text.specs.declared.input.Input.{Input}
+use Rattle.trace_text.specs.declared.reading.TheConstants.{MOST_BODY_LINES}
+use Rattle.trace_text.specs.Judging.{size_shown}
 use Rattle.trace_text.specs.State.{IsSound, AreSteps, said_in_body, said_with_steps}
 use Rattle.trace_text.specs.Progress.{Went}
+
+-- the input that is left: what was read ahead, and what the source still has
+abbrev pub unread : Input → Option (List ℕ) → Option (List ℕ)
+unread input left = prepend_known input.reader left
+
+-- the header was read
+abbrev pub ReadsHeader : Option (List ℕ) → Option (List ℕ) → Sizes → Type 0
+ReadsHeader old new sizes = Went old new [] (size_shown sizes ∷ []) 1
+
+-- the body was read with its end, behind the header's line, and its lines are no more than there may be
+abbrev pub ReadsBody : Option (List ℕ) → Option (List ℕ) → Body → Body → ℕ → Type 0
+ReadsBody old new before after number =
+    (count : ℕ) × (count ≤ MOST_BODY_LINES) × Went old new (said_in_body before) (said_in_body after ++ Ended ∷ []) count × (number ≡ 1 + count)
+
+-- the schedule was read
+abbrev pub ReadsSchedule : Option (List ℕ) → Option (List ℕ) → Body → List Step → Type 0
+ReadsSchedule old new body steps = (count : ℕ) × Went old new (said_with_steps body []) (said_with_steps body steps) count
 
 -- a line of the body was read, or the end
 abbrev pub StepsBody : Taken → Option (List ℕ) → Option (List ℕ) → Body → Body → Type 0

@@ -7,15 +7,31 @@ use Rattle.std.specs.Ordering.{nat_cmp}
 use Rattle.std.specs.Cmp.Lexicographic.{slice_cmp}
 use Rattle.std.specs.BTreeMap.{get}
 use Rattle.std.specs.Str.{bytes_eq}
+use Rattle.sample_key.specs.declared.limits.TheConstants.{MOST_SAMPLES}
 use Rattle.trace_model.specs.declared.notices.Record.{Record}
 use Rattle.trace_model.specs.declared.notices.Record.TheVariants.{Scan, Load, Unload, Exec, Exit, Kernel, Drain, Merge, Epoch}
 use Rattle.trace_model.specs.declared.notices.Line.{Line}
 use Rattle.trace_model.specs.declared.notices.Line.TheVariants.{Sample, Rec}
 use Rattle.trace_model.specs.declared.notices.Step.{Step}
 use Rattle.trace_model.specs.Said.{Said, Ended, is_sample, is_record, is_step, is_part_end, may_precede_scan}
-use Rattle.trace_model.specs.Recording.{line_said, step_said, images_in_order, are_good}
-use Rattle.trace_text.specs.declared.body_state.Body.{Body}
+use Rattle.trace_model.specs.declared.limits.TheConstants.{MOST_PARTS, MOST_RECORDS, MOST_STEPS}
+use Rattle.trace_model.specs.declared.reasons.TraceWhy.{TraceWhy}
+use Rattle.trace_model.specs.Grammar.{context_tests, first_that_applies, value_tests}
+use Rattle.trace_model.specs.Recording.{Recording, said_in, line_said, step_said, images_in_order, are_good}
+use Rattle.trace_text.specs.declared.body.Body.{Body}
 use Rattle.trace_text.specs.Judging.{size_shown}
+
+-- nothing is wrong with a line's values, after what the lines before it said
+abbrev pub Passes : List (Said ℕ) → Said ℕ → Type 0
+Passes before said = first_that_applies (value_tests before said) ≡ None
+
+-- the first reason that the lines before it give against a line, where one does
+abbrev pub FaultOf : List (Said ℕ) → Said ℕ → Option TraceWhy → Type 0
+FaultOf before said fault = fault ≡ first_that_applies (context_tests before said)
+
+-- a trace has the images that its lines name, in order of first use
+abbrev pub HasItsImages : Recording → Type 0
+HasItsImages r = r.images ≡ images_in_order (said_in r)
 
 -- the header, and what the lines of the body say so far
 abbrev pub said_in_body : Body → List (Said ℕ)
@@ -44,7 +60,7 @@ is_among n Epoch = true
 
 abbrev pub line_is_among : ℕ → Line → Bool
 line_is_among n (Sample cpu key) = true
-line_is_among n (Rec entry) = is_among n entry
+line_is_among n (Rec notice) = is_among n notice
 
 -- what the reader counts agrees with what the lines say, which are all good
 pub record Tracks (said : List (Said ℕ)) (images : List (List ℕ)) (samples records parts : ℕ) (scans : Bool) : Type 0 where
@@ -54,9 +70,9 @@ pub record Tracks (said : List (Said ℕ)) (images : List (List ℕ)) (samples r
   pub parts_are : parts ≡ count_by is_part_end said
   pub no_steps : count_by is_step said ≡ 0
   pub scans_are : scans ≡ list_all may_precede_scan said
-  pub samples_most : samples ≤ 2000000
-  pub records_most : records ≤ 65536
-  pub parts_most : parts ≤ 1024
+  pub samples_most : samples ≤ MOST_SAMPLES
+  pub records_most : records ≤ MOST_RECORDS
+  pub parts_most : parts ≤ MOST_PARTS
   pub few_images : length images ≤ records
   pub good : are_good [] said ≡ true
 
@@ -70,5 +86,5 @@ pub record IsSound (b : Body) : Type 0 where
 pub record AreSteps (b : Body) (steps : List Step) : Type 0 where
   pub images_are : b.images.items ≡ images_in_order (said_with_steps b steps)
   pub steps_are : length steps ≡ count_by is_step (said_with_steps b steps)
-  pub steps_most : length steps ≤ 4000000
+  pub steps_most : length steps ≤ MOST_STEPS
   pub good : are_good [] (said_with_steps b steps) ≡ true

@@ -6,18 +6,17 @@ use Rattle.std.specs.List.{fold}
 use Rattle.std.specs.Ordering.{nat_cmp}
 use Rattle.std.specs.Cmp.Lexicographic.{slice_cmp}
 use Rattle.std.specs.BTreeMap.{get}
-use Rattle.sample_key.specs.declared.events.Event.{Event}
+use Rattle.trace_model.specs.declared.limits.TheConstants.{MOST_RECORDS}
 use Rattle.trace_model.specs.declared.reasons.TraceWhy.{TraceWhy}
 use Rattle.trace_model.specs.declared.notices.Record.{Record}
 use Rattle.trace_model.specs.declared.notices.Line.{Line}
 use Rattle.trace_model.specs.declared.notices.Line.TheVariants.{Rec}
-use Rattle.trace_model.specs.Said.{Said, Sampled, Ended, images_named}
+use Rattle.trace_model.specs.Said.{Said, Ended, images_named}
 use Rattle.trace_model.specs.Recording.{line_said, record_said, name_at, with_name}
-use Rattle.trace_text.specs.declared.body.BodyValues.{BodyValues}
-use Rattle.trace_text.specs.declared.body_state.Body.{Body}
-use Rattle.trace_text.specs.declared.body_state.Taken.{Taken}
-use Rattle.trace_text.specs.declared.body_state.Taken.TheVariants as kinds
-use Rattle.trace_text.specs.Forms.{values_shown}
+use Rattle.trace_text.specs.declared.body.Body.{Body}
+use Rattle.trace_text.specs.declared.body.Taken.{Taken}
+use Rattle.trace_text.specs.declared.body.Taken.TheVariants as kinds
+use Rattle.trace_text.specs.Forms.{BodyValues, values_shown}
 use Rattle.trace_text.specs.State.{IsSound, said_in_body, index_from, is_among, line_is_among}
 use Rattle.trace_model.specs.Parts.{ends_part}
 use Rattle.trace_text.specs.Entries.{record_may_precede_scan}
@@ -39,7 +38,7 @@ IsJudged (Err why) judged = judged ≡ Err why
 
 -- the index finds each image
 abbrev pub IsIndexed : Body → Type 0
-IsIndexed b = ((name : List ℕ) → get (slice_cmp nat_cmp) b.index name ≡ index_from 0 b.images.items name) × (length b.images.items < 65536)
+IsIndexed b = ((name : List ℕ) → get (slice_cmp nat_cmp) b.index name ≡ index_from 0 b.images.items name) × (length b.images.items < MOST_RECORDS)
 
 -- an image has this index now, and the rest stays
 pub record IsNamed (old new : Body) : Type 0 where
@@ -58,27 +57,27 @@ pub record NamesImage (old new : Body) (name : List ℕ) (at : ℕ) : Type 0 whe
   pub named : name_at new.images.items at ≡ name
 
 -- this record says so, its image by index
-pub record Names (old new : Body) (said : Said ℕ) (entry : Record) : Type 0 where
+pub record Names (old new : Body) (said : Said ℕ) (notice : Record) : Type 0 where
   pub kept : IsNamed old new
   pub images : new.images.items ≡ fold with_name old.images.items (images_named said)
-  pub among : is_among (length new.images.items) entry ≡ true
-  pub says : record_said new.images.items entry ≡ said
+  pub among : is_among (length new.images.items) notice ≡ true
+  pub says : record_said new.images.items notice ≡ said
 
-pub record PushesRecord (old new : Body) (entry : Record) : Type 0 where
+pub record PushesRecord (old new : Body) (notice : Record) : Type 0 where
   pub sizes : new.sizes ≡ old.sizes
   pub images : new.images ≡ old.images
   pub index : new.index ≡ old.index
-  pub lines : new.lines.items ≡ old.lines.items ++ Rec entry ∷ []
+  pub lines : new.lines.items ≡ old.lines.items ++ Rec notice ∷ []
   pub samples : new.samples ≡ old.samples
   pub records : new.records ≡ old.records + 1
-  pub parts : new.parts ≡ old.parts + cond (ends_part entry) 1 0
-  pub scans : new.scans ≡ (old.scans && record_may_precede_scan entry)
+  pub parts : new.parts ≡ old.parts + cond (ends_part notice) 1 0
+  pub scans : new.scans ≡ (old.scans && record_may_precede_scan notice)
 
-pub record PushesSample (old new : Body) (cpu pid pc : ℕ) (event : Event) : Type 0 where
+pub record PushesSample (old new : Body) (said : Said ℕ) : Type 0 where
   pub sizes : new.sizes ≡ old.sizes
   pub images : new.images ≡ old.images
   pub index : new.index ≡ old.index
-  pub lines : (line : Line) × (new.lines.items ≡ old.lines.items ++ line ∷ []) × ((images : List (List ℕ)) → line_said images line ≡ Sampled cpu pid pc event) × ((n : ℕ) → line_is_among n line ≡ true)
+  pub lines : (line : Line) × (new.lines.items ≡ old.lines.items ++ line ∷ []) × ((images : List (List ℕ)) → line_said images line ≡ said) × ((n : ℕ) → line_is_among n line ≡ true)
   pub samples : new.samples ≡ old.samples + 1
   pub records : new.records ≡ old.records
   pub parts : new.parts ≡ old.parts

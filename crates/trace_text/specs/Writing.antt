@@ -10,6 +10,7 @@ use Rattle.outside_io.specs.Causes.{Rose}
 use Rattle.outside_io.specs.Prefix.{AppendsPrefix}
 use Rattle.sample_key.specs.declared.keys.Key.{Key}
 use Rattle.sample_key.specs.Events.{name_of}
+use Rattle.trace_model.specs.Said.{Said, line_text}
 use Rattle.trace_text.specs.declared.refusals.PutError.{PutError}
 use Rattle.trace_text.specs.declared.refusals.PutError.TheVariants.{WriteFault, Memory}
 
@@ -18,6 +19,10 @@ abbrev pub PutsText : {T : Type 0} → List ℕ → Option (List ℕ) → Option
 PutsText text old new before now (Ok done) = Appends old new text × (now ≡ before)
 PutsText text old new before now (Err WriteFault) = AppendsPrefix old new text × Rose before now
 PutsText text old new before now (Err Memory) = (new ≡ old) × (now ≡ before)
+
+-- a line with its line feed
+abbrev pub ended : Said ℕ → List ℕ
+ended said = line_text said ++ 10 ∷ []
 
 -- the sizes behind the number of processors, and the end of the line
 abbrev pub sizes_text : ℕ → ℕ → List ℕ

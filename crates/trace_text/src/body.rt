@@ -1,404 +1,393 @@
-ghost use Rattle.std.specs.Prelude.{◌≡◌, ◌%◌, ◌==◌, ◌&&◌, [], ◌∷◌, if◌then◌else◌, Some, None, MatchOption, true, false};
-ghost use Rattle.text_num.specs.Numbers.{value_of};
-ghost use Rattle.std.specs.Option.{option_map};
-ghost use Rattle.trace_model.specs.Grammar.{body_of, cut_at_spaces};
-ghost use Rattle.trace_model.specs.Said.{Sampled, every, tested, is_spelled, is_aligned, is_titled, values_of};
-ghost use Rattle.trace_text.specs.Forms.{body_shown, values_shown, mapping_fields, read_field};
+//! The body of a trace, as far as it was read: `Body::take_line` finds a line's form, judges it after what the lines
+//! before it said, and keeps what it says. The body counts what the limits speak of and holds each image once.
 
-use crate::fields::{address, cut, decimal, mapping};
-use sample_key::Event;
-use text_num::{is_dec, is_hex, is_name};
-use trace_model::Record;
+ghost use Rattle.std.specs.Prelude.{◌≡◌, ◌%◌, ◌<◌, ◌≤◌, nat_le, [], ◌∷◌, true, not, OnOk, IfErr, IfOk, Some, None, if◌then◌else◌, ◌||◌};
+ghost use Rattle.std.specs.Ordering.{nat_cmp};
+ghost use Rattle.std.specs.Cmp.Lexicographic.{slice_cmp};
+ghost use Rattle.std.specs.BTreeMap.{get};
+ghost use Rattle.sample_key.specs.declared.limits.TheConstants.{MOST_SAMPLES};
+ghost use Rattle.trace_model.specs.declared.limits.TheConstants.{MOST_PARTS, MOST_RECORDS};
+ghost use Rattle.trace_model.specs.Grammar.{verdict, verdict_on};
+ghost use Rattle.trace_text.specs.Entries.{record_may_precede_scan};
+ghost use Rattle.trace_text.specs.State.{FaultOf, Passes};
+use crate::body_lines::{
+    BodyForm, BodyLine, BodyValues, NoticeLine, NoticeValues, SampleValues, body_form, is_aligned,
+    is_spelled, is_titled, read_values,
+};
+use crate::fields::why_not_read;
+use crate::headers::Sizes;
+use crate::refusals::LineRefusal;
+use sample_key::{Key, MOST_SAMPLES};
+use std::alloc::{AllocError, Global};
+use std::cmp::Ordering;
+use std::collections::BTreeMap;
+use std::collections::btree_map::Comparable;
+use text_num::Name;
+use trace_model::{Line, MOST_PARTS, MOST_RECORDS, Record, Step, Trace, TraceWhy};
 
-/// A mapping of a process, with its fields as they stand.
-#[derive(Clone, Copy)]
-pub struct MappingForm<'a> {
-    pub pid: &'a [u8],
-    pub base: &'a [u8],
-    pub size: &'a [u8],
-    pub image: &'a [u8],
+/// The sizes and the body of a trace, as far as it was read.
+#[derive(Drop)]
+pub struct Body {
+    /// The sizes that the header gave.
+    pub sizes: Sizes,
+    /// The images, in order of first use.
+    pub images: Vec<Name>,
+    /// The index of each image, by its name.
+    index: BTreeMap<Name, u32>,
+    /// The samples and records.
+    pub lines: Vec<Line>,
+    /// How many of the lines are samples.
+    samples: u64,
+    /// How many of the lines are records.
+    records: u32,
+    /// How many of the records end a part.
+    parts: u32,
+    /// Whether a scan may still follow.
+    scans: bool,
 }
 
-/// The same with the values of the number fields.
-#[derive(Clone, Copy)]
-pub struct MappingValues<'a> {
-    pub pid: u32,
-    pub base: u64,
-    pub size: u64,
-    pub image: &'a [u8],
-}
-
-impl MappingValues<'_> {
-    /// The records of this mapping, with its image by index.
-    pub fn scan(&self, image: u32) -> Record
-        ensures { result ≡ Record.Scan self.now.pid self.now.base self.now.size image }
-    {
-        let (pid, base, length) = (self.pid, self.base, self.size);
-        Record::Scan {
-            pid,
-            base,
-            length,
-            image,
-        }
-    }
-
-    pub fn load(&self, image: u32) -> Record
-        ensures { result ≡ Record.Load self.now.pid self.now.base self.now.size image }
-    {
-        let (pid, base, length) = (self.pid, self.base, self.size);
-        Record::Load {
-            pid,
-            base,
-            length,
-            image,
-        }
-    }
-
-    pub fn exec(&self, image: u32) -> Record
-        ensures { result ≡ Record.Exec self.now.pid self.now.base self.now.size image }
-    {
-        let (pid, base, length) = (self.pid, self.base, self.size);
-        Record::Exec {
-            pid,
-            base,
-            length,
-            image,
-        }
-    }
-}
-
-/// A line of the body whose words are in order, with its other fields as they stand.
-#[derive(Clone, Copy)]
-pub enum BodyForm<'a> {
-    Sample {
-        cpu: &'a [u8],
-        pid: &'a [u8],
-        pc: &'a [u8],
-        event: Event,
-    },
-    Scan(MappingForm<'a>),
-    Load(MappingForm<'a>),
-    Unload {
-        pid: &'a [u8],
-        base: &'a [u8],
-        size: &'a [u8],
-    },
-    Exec(MappingForm<'a>),
-    Exit {
-        pid: &'a [u8],
-    },
-    Kernel {
-        base: &'a [u8],
-        size: &'a [u8],
-        image: &'a [u8],
-    },
-    Drain,
-    Merge,
-    Epoch,
+/// What a good line of the body is.
+#[derive(Clone, Copy, PartialEq, Eq)]
+pub enum Taken {
+    /// A sample or a record.
+    Line,
+    /// The end of the body.
     End,
 }
 
-/// The same with the values of the number fields.
+impl Body {
+    ghost use Rattle.text_num.specs.Names.{is_name};
+    ghost use Rattle.trace_model.specs.Recording.{said_in};
+    ghost use Rattle.trace_model.specs.Said.{every, tested, is_titled};
+    ghost use Rattle.trace_model.specs.Traces.{recording_of};
+    ghost use Rattle.trace_text.specs.Forms.{body_shown, notice_values, sample_values, values_shown};
+    ghost use Rattle.trace_text.specs.Judging.{size_shown};
+    ghost use Rattle.trace_text.specs.Progress.{IsRefusal};
+    ghost use Rattle.trace_text.specs.State.{AreSteps, HasItsImages, IsSound, said_in_body, said_with_steps};
+    ghost use Rattle.trace_text.specs.Taking.{Adds, IsIndexed, IsJudged, Names, NamesImage, PushesRecord};
+    ghost use Rattle.trace_text.specs.Taking.{PushesSample, TakesLine};
+    ghost use Rattle.trace_text.specs.Faults.{part_fault, record_fault, sample_fault, scan_fault};
+
+    /// The body that stands behind a header, before its first line.
+    pub fn new(alloc: Global, sizes: Sizes) -> Body
+        requires { Passes [] (size_shown sizes) }
+        ensures sound { IsSound result }
+        ensures said { said_in_body result ≡ size_shown sizes ∷ [] }
+        ensures sizes { result.sizes ≡ sizes }
+    {
+        Body {
+            sizes,
+            images: Vec::new(alloc),
+            index: BTreeMap::new(alloc),
+            lines: Vec::new(alloc),
+            samples: 0,
+            records: 0,
+            parts: 0,
+            scans: true,
+        }
+    }
+
+    /// Takes the next line of the body.
+    pub fn take_line(&mut self, alloc: Global, line: &[u8]) -> Result<Taken, LineRefusal>
+        requires { IsSound self.old }
+        ensures taken { IfOk result (λ taken. TakesLine taken self.old line.now self.new) }
+        ensures refused { IfErr result (IsRefusal (verdict (said_in_body self.old) line.now)) }
+    {
+        let Some(form) = body_form(line) else {
+            return Err(LineRefusal::Bad {
+                why: TraceWhy::BadWord,
+            });
+        };
+        let values = self.judge(&form)?;
+        let taken = self.add(alloc, &values)?;
+        Ok(taken)
+    }
+
+    /// The trace of this body and these steps.
+    pub fn into_trace(self, schedule: Vec<Step>) -> Trace
+        requires { AreSteps self schedule.items }
+        ensures said { said_in (recording_of result) ≡ said_with_steps self schedule.items }
+        ensures images { HasItsImages (recording_of result) }
+    {
+        Trace {
+            cpus: self.sizes.cpus,
+            buckets: self.sizes.buckets,
+            buffer: self.sizes.buffer,
+            images: self.images,
+            lines: self.lines,
+            schedule,
+        }
+    }
+
+    // What a line whose words are in order says, or the first reason why it is refused.
+    fn judge<'a>(&self, form: &BodyForm<'a>) -> Result<BodyValues<'a>, TraceWhy>
+        requires { IsSound self.now }
+        ensures judged { IsJudged result (verdict_on (said_in_body self.now) (body_shown form.now)) }
+        ensures passes { IfOk result (λ line. Passes (said_in_body self.now) (values_shown line)) }
+    {
+        let Some(values) = read_values(form) else {
+            return Err(why_not_read(is_spelled(form)));
+        };
+        if !is_aligned(&values) {
+            return Err(TraceWhy::Unaligned);
+        }
+        if !is_titled(&values) {
+            return Err(TraceWhy::BadName);
+        }
+        match self.context(&values) {
+            Some(why) => Err(why),
+            None => Ok(values),
+        }
+    }
+
+    // The first reason that the lines before it give against a line.
+    fn context(&self, values: &BodyValues<'_>) -> Option<TraceWhy>
+        requires { IsSound self.now }
+        ensures { FaultOf (said_in_body self.now) (values_shown values.now) result }
+    {
+        match values {
+            BodyLine::Sample(sample) => self.against_sample(sample.cpu),
+            BodyLine::Notice(notice) => self.against_notice(notice),
+            BodyLine::End => None,
+        }
+    }
+
+    fn against_notice(&self, values: &NoticeValues<'_>) -> Option<TraceWhy>
+        requires { IsSound self.now }
+        ensures { FaultOf (said_in_body self.now) (notice_values values.now) result }
+    {
+        match values {
+            NoticeLine::Scan(_) => self.against_scan(),
+            NoticeLine::Load(_) => self.against_record(),
+            NoticeLine::Unload { .. } => self.against_record(),
+            NoticeLine::Exec(_) => self.against_record(),
+            NoticeLine::Exit { .. } => self.against_record(),
+            NoticeLine::Kernel { .. } => self.against_record(),
+            NoticeLine::Drain => self.against_record(),
+            NoticeLine::Merge => self.against_part(),
+            NoticeLine::Epoch => self.against_part(),
+        }
+    }
+
+    fn against_sample(&self, cpu: u32) -> Option<TraceWhy>
+        ensures { result ≡ sample_fault self.now.sizes.cpus self.now.samples cpu }
+    {
+        if self.sizes.cpus <= cpu {
+            Some(TraceWhy::NoSuchCpu)
+        } else if MOST_SAMPLES <= self.samples {
+            Some(TraceWhy::TooManySamples)
+        } else {
+            None
+        }
+    }
+
+    fn against_scan(&self) -> Option<TraceWhy>
+        ensures { result ≡ scan_fault self.now.scans self.now.records }
+    {
+        if !self.scans {
+            Some(TraceWhy::ScanTooLate)
+        } else if MOST_RECORDS <= self.records {
+            Some(TraceWhy::TooManyRecords)
+        } else {
+            None
+        }
+    }
+
+    fn against_record(&self) -> Option<TraceWhy>
+        ensures { result ≡ record_fault self.now.records }
+    {
+        if MOST_RECORDS <= self.records {
+            Some(TraceWhy::TooManyRecords)
+        } else {
+            None
+        }
+    }
+
+    fn against_part(&self) -> Option<TraceWhy>
+        ensures { result ≡ part_fault self.now.records self.now.parts }
+    {
+        if MOST_RECORDS <= self.records || MOST_PARTS <= self.parts {
+            Some(TraceWhy::TooManyRecords)
+        } else {
+            None
+        }
+    }
+
+    // Keeps what a good line says.
+    fn add(&mut self, alloc: Global, values: &BodyValues<'_>) -> Result<Taken, AllocError>
+        requires sound { IsSound self.old }
+        requires passes { Passes (said_in_body self.old) (values_shown values.now) }
+        ensures { IfOk result (λ taken. Adds taken self.old (values_shown values.now) self.new) }
+    {
+        match values {
+            BodyLine::Sample(sample) => {
+                self.push_sample(sample)?;
+                Ok(Taken::Line)
+            }
+            BodyLine::Notice(notice) => {
+                let record = self.record_of(alloc, notice)?;
+                self.push_record(record)?;
+                Ok(Taken::Line)
+            }
+            BodyLine::End => Ok(Taken::End),
+        }
+    }
+
+    // The record that a line says, with its image by index.
+    fn record_of(&mut self, alloc: Global, values: &NoticeValues<'_>) -> Result<Record, AllocError>
+        requires index { IsIndexed self.old }
+        requires titled { every is_titled (tested (notice_values values.now)) ≡ true }
+        ensures { IfOk result (Names self.old self.new (notice_values values.now)) }
+    {
+        match *values {
+            NoticeLine::Scan(mapping) => {
+                let image = self.image(alloc, mapping.image)?;
+                Ok(Record::Scan {
+                    pid: mapping.pid,
+                    base: mapping.base,
+                    length: mapping.length,
+                    image,
+                })
+            }
+            NoticeLine::Load(mapping) => {
+                let image = self.image(alloc, mapping.image)?;
+                Ok(Record::Load {
+                    pid: mapping.pid,
+                    base: mapping.base,
+                    length: mapping.length,
+                    image,
+                })
+            }
+            NoticeLine::Unload { pid, base, length } => Ok(Record::Unload { pid, base, length }),
+            NoticeLine::Exec(mapping) => {
+                let image = self.image(alloc, mapping.image)?;
+                Ok(Record::Exec {
+                    pid: mapping.pid,
+                    base: mapping.base,
+                    length: mapping.length,
+                    image,
+                })
+            }
+            NoticeLine::Exit { pid } => Ok(Record::Exit { pid }),
+            NoticeLine::Kernel {
+                base,
+                length,
+                image,
+            } => {
+                let image = self.image(alloc, image)?;
+                Ok(Record::Kernel {
+                    base,
+                    length,
+                    image,
+                })
+            }
+            NoticeLine::Drain => Ok(Record::Drain),
+            NoticeLine::Merge => Ok(Record::Merge),
+            NoticeLine::Epoch => Ok(Record::Epoch),
+        }
+    }
+
+    // The index of an image, which is named first here where it is new.
+    fn image(&mut self, alloc: Global, bytes: &[u8]) -> Result<u32, AllocError>
+        requires index { IsIndexed self.old }
+        requires name { is_name bytes.now ≡ true }
+        ensures { IfOk result (NamesImage self.old self.new bytes.now) }
+    {
+        match index_of(&self.index, bytes) {
+            Some(index) => Ok(index),
+            None => self.new_image(alloc, bytes),
+        }
+    }
+
+    fn new_image(&mut self, alloc: Global, bytes: &[u8]) -> Result<u32, AllocError>
+        requires index { IsIndexed self.old }
+        requires name { is_name bytes.now ≡ true }
+        requires new { get (slice_cmp nat_cmp) self.old.index bytes.now ≡ None }
+        ensures { IfOk result (NamesImage self.old self.new bytes.now) }
+    {
+        let Some(name) = Name::of_bytes(alloc, bytes)? else {
+            unreachable!()
+        };
+        let index = self.images.len() as u32;
+        let copy = name.copy(alloc)?;
+        self.index.insert(copy, index)?;
+        self.images.push(name)?;
+        Ok(index)
+    }
+
+    fn push_record(&mut self, notice: Record) -> Result<(), AllocError>
+        requires records { self.old.records < MOST_RECORDS }
+        requires parts { self.old.parts ≤ MOST_PARTS }
+        ensures { OnOk result (PushesRecord self.old self.new notice) }
+    {
+        self.lines.push(Line::Rec(notice))?;
+        self.records += 1;
+        if notice.ends_part() {
+            self.parts += 1;
+        }
+        self.scans = self.scans && may_precede_scan(&notice);
+        Ok(())
+    }
+
+    fn push_sample(&mut self, sample: &SampleValues) -> Result<(), AllocError>
+        requires room { self.old.samples < MOST_SAMPLES }
+        requires aligned { sample.now.pc % 4 ≡ 0 }
+        ensures { OnOk result (PushesSample self.old self.new (sample_values sample.now)) }
+    {
+        let key = Key {
+            pid: sample.pid,
+            pc: sample.pc,
+            event: sample.event,
+        };
+        self.lines.push(Line::Sample {
+            cpu: sample.cpu,
+            key,
+        })?;
+        self.samples += 1;
+        self.scans = false;
+        Ok(())
+    }
+}
+
+fn index_of(index: &BTreeMap<Name, u32>, bytes: &[u8]) -> Option<u32>
+    ensures { result ≡ get (slice_cmp nat_cmp) index.now bytes.now }
+{
+    index.get(ImageBytes { bytes }).copied()
+}
+
+// The bytes of an image, by which the index finds it before a name is made of them.
 #[derive(Clone, Copy)]
-pub enum BodyValues<'a> {
-    Sample {
-        cpu: u32,
-        pid: u32,
-        pc: u64,
-        event: Event,
-    },
-    Scan(MappingValues<'a>),
-    Load(MappingValues<'a>),
-    Unload {
-        pid: u32,
-        base: u64,
-        size: u64,
-    },
-    Exec(MappingValues<'a>),
-    Exit {
-        pid: u32,
-    },
-    Kernel {
-        base: u64,
-        size: u64,
-        image: &'a [u8],
-    },
-    Drain,
-    Merge,
-    Epoch,
-    End,
+struct ImageBytes<'a> {
+    bytes: &'a [u8],
 }
 
-/// The form of a line of the body; nothing where it has none.
-pub fn body_form(line: &[u8]) -> Option<BodyForm<'_>>
-    ensures { option_map body_shown result ≡ body_of (cut_at_spaces line.now) }
-{
-    let (word, after_word) = cut(line);
-    let Some(behind_word) = after_word else {
-        return alone(word);
-    };
-    let (a, after_a) = cut(behind_word);
-    let Some(behind_a) = after_a else {
-        return with_one(word, a);
-    };
-    let (b, after_b) = cut(behind_a);
-    let Some(behind_b) = after_b else {
-        return None;
-    };
-    let (c, after_c) = cut(behind_b);
-    let Some(behind_c) = after_c else {
-        return with_three(word, a, b, c);
-    };
-    let (d, after_d) = cut(behind_c);
-    match after_d {
-        None => with_four(word, a, b, c, d),
-        Some(_) => None,
+impl Comparable<Name> for ImageBytes<'_> {
+    ghost use Rattle.std.specs.Cmp.Lexicographic.{nat_list_cmp_total};
+    ghost use Rattle.std.specs.BTreeMap.Comparable.{le_lt_trans};
+
+    ghost compare = { λ q k. slice_cmp nat_cmp q.bytes.now k };
+
+    ghost respects_cmp = { λ q x y. nat_list_cmp_total.congr q.bytes.now x y };
+
+    ghost below_greater = { λ q x y. le_lt_trans nat_list_cmp_total q.bytes.now x y };
+
+    fn compare(&self, key: &Name) -> Ordering {
+        self.bytes.cmp(key.bytes())
     }
 }
 
-fn alone(word: &[u8]) -> Option<BodyForm<'_>>
-    ensures { option_map body_shown result ≡ body_of (word.now ∷ []) }
+fn may_precede_scan(notice: &Record) -> bool
+    ensures { result ≡ record_may_precede_scan notice.now }
 {
-    if word == b"drain".as_slice() {
-        Some(BodyForm::Drain)
-    } else if word == b"merge".as_slice() {
-        Some(BodyForm::Merge)
-    } else if word == b"epoch".as_slice() {
-        Some(BodyForm::Epoch)
-    } else if word == b"end".as_slice() {
-        Some(BodyForm::End)
-    } else {
-        None
-    }
-}
-
-fn with_one<'a>(word: &[u8], pid: &'a [u8]) -> Option<BodyForm<'a>>
-    ensures { option_map body_shown result ≡ body_of (word.now ∷ pid.now ∷ []) }
-{
-    if word == b"exit".as_slice() {
-        Some(BodyForm::Exit { pid })
-    } else {
-        None
-    }
-}
-
-fn with_three<'a>(word: &[u8], a: &'a [u8], b: &'a [u8], c: &'a [u8]) -> Option<BodyForm<'a>>
-    ensures { option_map body_shown result ≡ body_of (word.now ∷ a.now ∷ b.now ∷ c.now ∷ []) }
-{
-    if word == b"unload".as_slice() {
-        Some(BodyForm::Unload {
-            pid: a,
-            base: b,
-            size: c,
-        })
-    } else if word == b"kernel".as_slice() {
-        Some(BodyForm::Kernel {
-            base: a,
-            size: b,
-            image: c,
-        })
-    } else {
-        None
-    }
-}
-
-fn with_four<'a>(
-    word: &[u8],
-    a: &'a [u8],
-    b: &'a [u8],
-    c: &'a [u8],
-    d: &'a [u8],
-) -> Option<BodyForm<'a>>
-    ensures { option_map body_shown result ≡ body_of (word.now ∷ a.now ∷ b.now ∷ c.now ∷ d.now ∷ []) }
-{
-    if word == b"s".as_slice() {
-        match Event::of_name(d) {
-            Some(event) => Some(BodyForm::Sample {
-                cpu: a,
-                pid: b,
-                pc: c,
-                event,
-            }),
-            None => None,
-        }
-    } else if word == b"load".as_slice() {
-        Some(BodyForm::Load(mapping_form(a, b, c, d)))
-    } else if word == b"scan".as_slice() {
-        Some(BodyForm::Scan(mapping_form(a, b, c, d)))
-    } else if word == b"exec".as_slice() {
-        Some(BodyForm::Exec(mapping_form(a, b, c, d)))
-    } else {
-        None
-    }
-}
-
-fn mapping_form<'a>(
-    pid: &'a [u8],
-    base: &'a [u8],
-    size: &'a [u8],
-    image: &'a [u8],
-) -> MappingForm<'a>
-    ensures pid { result.pid.now ≡ pid.now }
-    ensures base { result.base.now ≡ base.now }
-    ensures size { result.size.now ≡ size.now }
-    ensures image { result.image.now ≡ image.now }
-{
-    MappingForm {
-        pid,
-        base,
-        size,
-        image,
-    }
-}
-
-/// Whether each number field is canonical.
-pub fn is_spelled(form: &BodyForm<'_>) -> bool
-    ensures { result ≡ every is_spelled (tested (body_shown form.now)) }
-{
-    match form {
-        BodyForm::Sample {
-            cpu,
-            pid,
-            pc,
-            event: _,
-        } => is_dec(cpu) && (is_dec(pid) && is_hex(pc)),
-        BodyForm::Scan(form) => is_spelled_mapping(form),
-        BodyForm::Load(form) => is_spelled_mapping(form),
-        BodyForm::Unload { pid, base, size } => is_dec(pid) && (is_hex(base) && is_hex(size)),
-        BodyForm::Exec(form) => is_spelled_mapping(form),
-        BodyForm::Exit { pid } => is_dec(pid),
-        BodyForm::Kernel {
-            base,
-            size,
-            image: _,
-        } => (is_hex(base) && is_hex(size)) && true,
-        BodyForm::Drain => true,
-        BodyForm::Merge => true,
-        BodyForm::Epoch => true,
-        BodyForm::End => true,
-    }
-}
-
-fn is_spelled_mapping(form: &MappingForm<'_>) -> bool
-    ensures { result ≡ every is_spelled (mapping_fields form.now) }
-{
-    is_dec(form.pid) && ((is_hex(form.base) && is_hex(form.size)) && true)
-}
-
-/// The values of the fields, where each is canonical and in its range.
-pub fn read_values<'a>(form: &BodyForm<'a>) -> Option<BodyValues<'a>>
-    ensures { option_map values_shown result ≡ (if every read_field (tested (body_shown form.now)) then Some (values_of (body_shown form.now)) else None) }
-{
-    match *form {
-        BodyForm::Sample {
-            cpu,
-            pid,
-            pc,
-            event,
-        } => read_sample(cpu, pid, pc, event),
-        BodyForm::Scan(form) => Some(BodyValues::Scan(read_mapping(&form)?)),
-        BodyForm::Load(form) => Some(BodyValues::Load(read_mapping(&form)?)),
-        BodyForm::Unload { pid, base, size } => {
-            let pid = decimal(pid, 0, u32::MAX)?;
-            let (base, size) = mapping(base, size)?;
-            Some(BodyValues::Unload { pid, base, size })
-        }
-        BodyForm::Exec(form) => Some(BodyValues::Exec(read_mapping(&form)?)),
-        BodyForm::Exit { pid } => {
-            let pid = decimal(pid, 0, u32::MAX)?;
-            Some(BodyValues::Exit { pid })
-        }
-        BodyForm::Kernel { base, size, image } => {
-            let (base, size) = mapping(base, size)?;
-            Some(BodyValues::Kernel { base, size, image })
-        }
-        BodyForm::Drain => Some(BodyValues::Drain),
-        BodyForm::Merge => Some(BodyValues::Merge),
-        BodyForm::Epoch => Some(BodyValues::Epoch),
-        BodyForm::End => Some(BodyValues::End),
-    }
-}
-
-fn read_sample<'a>(cpu: &[u8], pid: &[u8], pc: &[u8], event: Event) -> Option<BodyValues<'a>>
-    ensures { option_map values_shown result ≡ (if every read_field (tested (Sampled cpu.now pid.now pc.now event)) then Some (values_of (Sampled cpu.now pid.now pc.now event)) else None) }
-{
-    let cpu = decimal(cpu, 0, 15)?;
-    let pid = decimal(pid, 0, u32::MAX)?;
-    let pc = address(pc)?;
-    Some(BodyValues::Sample {
-        cpu,
-        pid,
-        pc,
-        event,
-    })
-}
-
-fn read_mapping<'a>(form: &MappingForm<'a>) -> Option<MappingValues<'a>>
-    ensures { MatchOption result (every read_field (mapping_fields form.now) ≡ false) (λ m. (every read_field (mapping_fields form.now) ≡ true) × (m.pid ≡ value_of 10 form.now.pid.now) × (m.base ≡ value_of 16 form.now.base.now) × (m.size ≡ value_of 16 form.now.size.now) × (m.image.now ≡ form.now.image.now)) }
-{
-    let pid = decimal(form.pid, 0, u32::MAX)?;
-    let (base, size) = mapping(form.base, form.size)?;
-    Some(MappingValues {
-        pid,
-        base,
-        size,
-        image: form.image,
-    })
-}
-
-/// Whether addresses and lengths are multiples of 4.
-pub fn is_aligned(values: &BodyValues<'_>) -> bool
-    ensures { result ≡ every is_aligned (tested (values_shown values.now)) }
-{
-    match values {
-        BodyValues::Sample {
-            cpu: _,
-            pid: _,
-            pc,
-            event: _,
-        } => *pc % 4 == 0,
-        BodyValues::Scan(mapping) => are_aligned(mapping.base, mapping.size) && true,
-        BodyValues::Load(mapping) => are_aligned(mapping.base, mapping.size) && true,
-        BodyValues::Unload { pid: _, base, size } => are_aligned(*base, *size),
-        BodyValues::Exec(mapping) => are_aligned(mapping.base, mapping.size) && true,
-        BodyValues::Exit { .. } => true,
-        BodyValues::Kernel {
-            base,
-            size,
-            image: _,
-        } => are_aligned(*base, *size) && true,
-        BodyValues::Drain => true,
-        BodyValues::Merge => true,
-        BodyValues::Epoch => true,
-        BodyValues::End => true,
-    }
-}
-
-fn are_aligned(base: u64, size: u64) -> bool
-    ensures { result ≡ (base % 4 == 0 && size % 4 == 0) }
-{
-    base % 4 == 0 && size % 4 == 0
-}
-
-/// Whether an image that is named has a name.
-pub fn is_titled(values: &BodyValues<'_>) -> bool
-    ensures { result ≡ every is_titled (tested (values_shown values.now)) }
-{
-    match values {
-        BodyValues::Sample { .. } => true,
-        BodyValues::Scan(mapping) => is_name(mapping.image),
-        BodyValues::Load(mapping) => is_name(mapping.image),
-        BodyValues::Unload { .. } => true,
-        BodyValues::Exec(mapping) => is_name(mapping.image),
-        BodyValues::Exit { .. } => true,
-        BodyValues::Kernel {
-            base: _,
-            size: _,
-            image,
-        } => is_name(image),
-        BodyValues::Drain => true,
-        BodyValues::Merge => true,
-        BodyValues::Epoch => true,
-        BodyValues::End => true,
+    match notice {
+        Record::Scan { .. } => true,
+        Record::Load { .. } => false,
+        Record::Unload { .. } => false,
+        Record::Exec { .. } => false,
+        Record::Exit { .. } => false,
+        Record::Kernel { .. } => true,
+        Record::Drain => false,
+        Record::Merge => false,
+        Record::Epoch => false,
     }
 }

@@ -1,11 +1,15 @@
-ghost use Rattle.std.specs.Prelude.{◌≡◌, ◌<◌, ◌≤◌, IsTrue, [], ◌∷◌, length, MatchOption, true, false};
+//! The fields of a line: a line cut at its spaces, and number fields read in their ranges.
+
+ghost use Rattle.std.specs.Prelude.{◌≡◌, ◌<◌, ◌≤◌, IsTrue, [], ◌∷◌, length, true, false, if◌then◌else◌};
 ghost use Rattle.text_num.specs.Numbers.{value_of};
 ghost use Rattle.trace_model.specs.Grammar.{cut_at_spaces};
 ghost use Rattle.trace_model.specs.Said.{Decimal, Address, Mapping, PowerOfTwo, is_table_size};
-ghost use Rattle.trace_text.specs.Forms.{fields_behind, read_field, ReadsAs};
+ghost use Rattle.trace_model.specs.declared.limits.TheConstants.{MOST_BUCKETS};
+ghost use Rattle.trace_text.specs.Forms.{CutsFour, fields_behind, read_field, ReadsAs, ReadsRange};
 
 use memchr::memchr;
 use text_num::{read_dec, read_hex};
+use trace_model::{GREATEST_END, TraceWhy};
 
 /// The first field of a text, and the text behind the space that ends it.
 pub fn cut(text: &[u8]) -> (&[u8], Option<&[u8]>)
@@ -29,7 +33,7 @@ pub struct Four<'a> {
 
 /// The first four fields of a text; nothing where it has fewer.
 pub fn cut_four(text: &[u8]) -> Option<Four<'_>>
-    ensures { MatchOption result (length (cut_at_spaces text.now) < 4) (λ f. cut_at_spaces text.now ≡ f.a.now ∷ f.b.now ∷ f.c.now ∷ f.d.now ∷ fields_behind f.rest) }
+    ensures { CutsFour text.now result }
 {
     let (a, after_a) = cut(text);
     let (b, after_b) = cut(after_a?);
@@ -65,7 +69,7 @@ pub fn table_size(text: &[u8]) -> Option<u32>
 // A power of two from 1 to 4,096.
 fn is_table_size(n: u64) -> bool
     ensures test { result ≡ is_table_size n }
-    ensures small { IsTrue result → n ≤ 4096 }
+    ensures small { IsTrue result → n ≤ MOST_BUCKETS }
 {
     [1, 2, 4, 8, 16, 32, 64, 128, 256, 512, 1024, 2048, 4096].contains(&n)
 }
@@ -79,14 +83,25 @@ pub fn address(text: &[u8]) -> Option<u64>
 
 /// The base and the length of a mapping; nothing where one is not canonical, or the length is 0, or the end is above
 /// 2^64 - 4.
-pub fn mapping(base: &[u8], size: &[u8]) -> Option<(u64, u64)>
-    ensures { MatchOption result (read_field (Mapping base.now size.now) ≡ false) (λ m. (read_field (Mapping base.now size.now) ≡ true) × (m.0 ≡ value_of 16 base.now) × (m.1 ≡ value_of 16 size.now)) }
+pub fn range(base: &[u8], length: &[u8]) -> Option<(u64, u64)>
+    ensures { ReadsRange base.now length.now result }
 {
     let base = read_hex(base)?;
-    let size = read_hex(size)?;
-    if 1 <= size && base <= 18446744073709551612 && size <= 18446744073709551612 - base {
-        Some((base, size))
+    let length = read_hex(length)?;
+    if 1 <= length && base <= GREATEST_END && length <= GREATEST_END - base {
+        Some((base, length))
     } else {
         None
+    }
+}
+
+/// Why number fields were not read: one is outside its range where each is canonical.
+pub fn why_not_read(is_spelled: bool) -> TraceWhy
+    ensures { result ≡ (if is_spelled then TraceWhy.OutOfRange else TraceWhy.BadNumber) }
+{
+    if is_spelled {
+        TraceWhy::OutOfRange
+    } else {
+        TraceWhy::BadNumber
     }
 }

@@ -1,22 +1,26 @@
-ghost use Rattle.std.specs.Prelude.{◌≡◌, ◌&&◌, [], ◌∷◌, if◌then◌else◌, Some, None, IfOk};
+//! The header of a trace: `sizes_of` finds its form and reads its sizes.
+
+ghost use Rattle.std.specs.Prelude.{◌≡◌, ◌&&◌, [], ◌∷◌, IfOk};
 ghost use Rattle.std.specs.Option.{option_map};
-ghost use Rattle.trace_model.specs.Grammar.{header_of, cut_at_spaces, verdict, value_tests, first_that_applies};
-ghost use Rattle.trace_model.specs.Said.{every, tested, is_spelled, values_of};
-ghost use Rattle.trace_text.specs.Forms.{header_shown, read_field};
+ghost use Rattle.trace_model.specs.Grammar.{header_of, cut_at_spaces, verdict};
+ghost use Rattle.trace_model.specs.Said.{every, tested, is_spelled};
+ghost use Rattle.trace_text.specs.Forms.{ReadsLine, four_fields, header_shown};
 ghost use Rattle.trace_text.specs.Judging.{size_shown};
+ghost use Rattle.trace_text.specs.State.{Passes};
 ghost use Rattle.trace_text.specs.Stepping.{IsSized};
 
-use crate::body_state::why_not_read;
-use crate::fields::{Four, cut_four, decimal, table_size};
+use crate::fields::{Four, cut_four, decimal, table_size, why_not_read};
 use text_num::is_dec;
-use trace_model::TraceWhy;
+use trace_model::{MOST_BUCKETS, MOST_CPUS, MOST_ENTRIES, TraceWhy};
 
 /// A header whose words are in order, with its number fields as they stand.
 #[derive(Clone, Copy)]
 pub enum HeaderForm<'a> {
+    /// The processors alone; the sizes are the usual ones.
     Short {
         cpus: &'a [u8],
     },
+    /// The processors and the sizes.
     Long {
         cpus: &'a [u8],
         buckets: &'a [u8],
@@ -27,9 +31,26 @@ pub enum HeaderForm<'a> {
 /// The sizes that a header gives.
 #[derive(Clone, Copy)]
 pub struct Sizes {
+    /// How many processors.
     pub cpus: u32,
+    /// How many buckets a table has.
     pub buckets: u32,
+    /// How many entries a buffer holds.
     pub buffer: u32,
+}
+
+/// The sizes that a header gives, or the first reason why it is refused.
+pub fn sizes_of(line: &[u8]) -> Result<Sizes, TraceWhy>
+    ensures judged { IsSized result (verdict [] line.now) }
+    ensures passes { IfOk result (λ sizes. Passes [] (size_shown sizes)) }
+{
+    let Some(form) = header_form(line) else {
+        return Err(TraceWhy::NotHeader);
+    };
+    let Some(sizes) = read_sizes(&form) else {
+        return Err(why_not_read(is_spelled(&form)));
+    };
+    Ok(sizes)
 }
 
 /// The form of a header; nothing where the line has none.
@@ -48,7 +69,7 @@ pub fn header_form(line: &[u8]) -> Option<HeaderForm<'_>>
 }
 
 fn long_form<'a>(front: &Four<'a>, back: &Four<'a>) -> Option<HeaderForm<'a>>
-    ensures { option_map header_shown result ≡ header_of (front.now.a.now ∷ front.now.b.now ∷ front.now.c.now ∷ front.now.d.now ∷ back.now.a.now ∷ back.now.b.now ∷ back.now.c.now ∷ back.now.d.now ∷ []) }
+    ensures { option_map header_shown result ≡ header_of (four_fields front.now (four_fields back.now [])) }
 {
     if front.a == b"dcpi-trace".as_slice()
         && front.b == b"1".as_slice()
@@ -76,6 +97,36 @@ fn short_form<'a>(a: &[u8], b: &[u8], c: &[u8], cpus: &'a [u8]) -> Option<Header
     }
 }
 
+/// The sizes, where each number field is canonical and in its range.
+pub fn read_sizes(form: &HeaderForm<'_>) -> Option<Sizes>
+    ensures { ReadsLine (header_shown form.now) (option_map size_shown result) }
+{
+    match *form {
+        HeaderForm::Short { cpus } => {
+            let cpus = decimal(cpus, 1, MOST_CPUS)?;
+            Some(Sizes {
+                cpus,
+                buckets: MOST_BUCKETS,
+                buffer: MOST_ENTRIES,
+            })
+        }
+        HeaderForm::Long {
+            cpus,
+            buckets,
+            buffer,
+        } => {
+            let cpus = decimal(cpus, 1, MOST_CPUS)?;
+            let buckets = table_size(buckets)?;
+            let buffer = decimal(buffer, 1, MOST_ENTRIES)?;
+            Some(Sizes {
+                cpus,
+                buckets,
+                buffer,
+            })
+        }
+    }
+}
+
 /// Whether each number field is canonical.
 pub fn is_spelled(form: &HeaderForm<'_>) -> bool
     ensures { result ≡ every is_spelled (tested (header_shown form.now)) }
@@ -88,48 +139,4 @@ pub fn is_spelled(form: &HeaderForm<'_>) -> bool
             buffer,
         } => is_dec(cpus) && (is_dec(buckets) && is_dec(buffer)),
     }
-}
-
-/// The sizes, where each number field is canonical and in its range.
-pub fn read_sizes(form: &HeaderForm<'_>) -> Option<Sizes>
-    ensures { option_map size_shown result ≡ (if every read_field (tested (header_shown form.now)) then Some (values_of (header_shown form.now)) else None) }
-{
-    match *form {
-        HeaderForm::Short { cpus } => {
-            let cpus = decimal(cpus, 1, 16)?;
-            Some(Sizes {
-                cpus,
-                buckets: 4096,
-                buffer: 8192,
-            })
-        }
-        HeaderForm::Long {
-            cpus,
-            buckets,
-            buffer,
-        } => {
-            let cpus = decimal(cpus, 1, 16)?;
-            let buckets = table_size(buckets)?;
-            let buffer = decimal(buffer, 1, 8192)?;
-            Some(Sizes {
-                cpus,
-                buckets,
-                buffer,
-            })
-        }
-    }
-}
-
-/// The sizes that a header gives, or the first reason why it is refused.
-pub fn sizes_of(line: &[u8]) -> Result<Sizes, TraceWhy>
-    ensures judged { IsSized result (verdict [] line.now) }
-    ensures passes { IfOk result (λ sizes. first_that_applies (value_tests [] (size_shown sizes)) ≡ None) }
-{
-    let Some(form) = header_form(line) else {
-        return Err(TraceWhy::NotHeader);
-    };
-    let Some(sizes) = read_sizes(&form) else {
-        return Err(why_not_read(is_spelled(&form)));
-    };
-    Ok(sizes)
 }

@@ -3,20 +3,16 @@
 #![tactic(auto)]
 
 mod body;
-mod body_state;
+mod body_lines;
 mod fields;
 mod headers;
 mod input;
+mod reading;
 mod refusals;
 mod schedule;
-mod steps;
-mod traces;
 mod writing;
 
+pub use reading::read_trace;
 pub use refusals::{PutError, TraceRefusal};
 pub use trace_model::{Line, Record, Step, Trace, TraceWhy};
-pub use traces::read_trace;
 pub use writing::write_trace;
-
-#[cfg(test)]
-mod tests;

@@ -1,3 +1,5 @@
+//! Why a trace, or a line of one, was not read, and why one was not written.
+
 use line_reader::LineFault;
 use outside_io::WriteFault;
 use std::alloc::{AllocError, AllocFailed};
@@ -21,8 +23,10 @@ pub enum TraceRefusal {
 /// Why a line was not taken.
 #[derive(Clone, Copy, Debug, PartialEq, Eq, Error)]
 pub enum LineRefusal {
+    /// The first reason that applies to the line.
     #[error("{why}")]
     Bad { why: TraceWhy },
+    /// No memory was found.
     #[error("out of memory")]
     Memory,
 }

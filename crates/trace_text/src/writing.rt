@@ -1,3 +1,5 @@
+//! Writes a trace as text: `write_trace` makes the text of each part and puts it into the sink at once.
+
 ghost use Rattle.std.specs.Prelude.{◌≡◌, ◌++◌, ◌∷◌, [], true, length, map, OnOk, IfOk};
 ghost use Rattle.std.specs.Fmt.{decimal};
 ghost use Rattle.std.specs.List.{list_all};
@@ -6,7 +8,8 @@ ghost use Rattle.trace_model.specs.Said.{Sampled, Unloaded, KernelMapped, Polled
 ghost use Rattle.trace_model.specs.Recording.{Reads, line_said, record_said, step_said, trace_text};
 ghost use Rattle.trace_model.specs.Traces.{recording_of};
 ghost use Rattle.trace_text.specs.State.{is_among, line_is_among};
-ghost use Rattle.trace_text.specs.Writing.{PutsText, header_text, sizes_text, mapping_text, range_text, key_end};
+ghost use Rattle.trace_text.specs.Writing.{PutsText, ended, header_text, key_end};
+ghost use Rattle.trace_text.specs.Writing.{mapping_text, range_text, sizes_text};
 
 use crate::refusals::PutError;
 use outside_io::{Sink, put_all};
@@ -20,7 +23,8 @@ use trace_model::{Line, Record, Step, Trace};
 /// the text was written, and where no memory is found nothing.
 pub fn write_trace<W: Sink>(alloc: Global, trace: &Trace, sink: &mut W) -> Result<(), PutError>
     ensures reads { Reads (trace_text (recording_of trace.now)) (recording_of trace.now) }
-    ensures written { PutsText (trace_text (recording_of trace.now)) (W.written sink.old) (W.written sink.new) (W.faults sink.old) (W.faults sink.new) result }
+    ensures written { PutsText (trace_text (recording_of trace.now)) (W.written sink.old)
+        (W.written sink.new) (W.faults sink.old) (W.faults sink.new) result }
 {
     trace_text_reads(trace);
     let text = text_of(alloc, trace)?;
@@ -61,7 +65,8 @@ fn put_sizes(out: &mut Vec<u8>, buckets: u32, buffer: u32) -> Result<(), AllocEr
 
 fn put_lines(out: &mut Vec<u8>, images: &[Name], lines: &[Line]) -> Result<(), AllocError>
     requires { list_all (line_is_among (length images.now)) lines.now ≡ true }
-    ensures { OnOk result (out.new.items ≡ out.old.items ++ text_of_lines (map line_text (map (line_said images.now) lines.now))) }
+    ensures { OnOk result (out.new.items ≡ out.old.items ++
+        text_of_lines (map line_text (map (line_said images.now) lines.now))) }
 {
     for line in lines {
         put_line(out, images, line)?;
@@ -70,7 +75,8 @@ fn put_lines(out: &mut Vec<u8>, images: &[Name], lines: &[Line]) -> Result<(), A
 }
 
 fn put_steps(out: &mut Vec<u8>, steps: &[Step]) -> Result<(), AllocError>
-    ensures { OnOk result (out.new.items ≡ out.old.items ++ text_of_lines (map line_text (map step_said steps.now))) }
+    ensures { OnOk result (out.new.items ≡ out.old.items ++
+        text_of_lines (map line_text (map step_said steps.now))) }
 {
     for step in steps {
         put_step(out, step)?;
@@ -80,16 +86,17 @@ fn put_steps(out: &mut Vec<u8>, steps: &[Step]) -> Result<(), AllocError>
 
 fn put_line(out: &mut Vec<u8>, images: &[Name], line: &Line) -> Result<(), AllocError>
     requires { line_is_among (length images.now) line.now ≡ true }
-    ensures { OnOk result (out.new.items ≡ out.old.items ++ (line_text (line_said images.now line.now) ++ 10 ∷ [])) }
+    ensures { OnOk result (out.new.items ≡ out.old.items ++ ended (line_said images.now line.now)) }
 {
     match line {
         Line::Sample { cpu, key } => put_sample(out, *cpu, key),
-        Line::Rec(entry) => put_record(out, images, entry),
+        Line::Rec(notice) => put_record(out, images, notice),
     }
 }
 
 fn put_sample(out: &mut Vec<u8>, cpu: u32, key: &Key) -> Result<(), AllocError>
-    ensures { OnOk result (out.new.items ≡ out.old.items ++ (line_text (Sampled cpu key.now.pid key.now.pc key.now.event) ++ 10 ∷ [])) }
+    ensures { OnOk result (out.new.items ≡ out.old.items ++
+        ended (Sampled cpu key.now.pid key.now.pc key.now.event)) }
 {
     out.extend_from_slice(b"s ")?;
     put_dec(out, u128::from(cpu))?;
@@ -110,11 +117,12 @@ fn put_key_end(out: &mut Vec<u8>, key: &Key) -> Result<(), AllocError>
     Ok(())
 }
 
-fn put_record(out: &mut Vec<u8>, images: &[Name], entry: &Record) -> Result<(), AllocError>
-    requires { is_among (length images.now) entry.now ≡ true }
-    ensures { OnOk result (out.new.items ≡ out.old.items ++ (line_text (record_said images.now entry.now) ++ 10 ∷ [])) }
+fn put_record(out: &mut Vec<u8>, images: &[Name], notice: &Record) -> Result<(), AllocError>
+    requires { is_among (length images.now) notice.now ≡ true }
+    ensures { OnOk result (out.new.items ≡ out.old.items ++
+        ended (record_said images.now notice.now)) }
 {
-    match *entry {
+    match *notice {
         Record::Scan {
             pid,
             base,
@@ -155,7 +163,8 @@ fn put_mapping(
     length: u64,
     image: &Name,
 ) -> Result<(), AllocError>
-    ensures { OnOk result (out.new.items ≡ out.old.items ++ mapping_text word.now pid base length image.now) }
+    ensures { OnOk result (out.new.items ≡ out.old.items ++
+        mapping_text word.now pid base length image.now) }
 {
     out.extend_from_slice(word)?;
     out.push(b' ')?;
@@ -165,7 +174,7 @@ fn put_mapping(
 }
 
 fn put_unload(out: &mut Vec<u8>, pid: u32, base: u64, length: u64) -> Result<(), AllocError>
-    ensures { OnOk result (out.new.items ≡ out.old.items ++ (line_text (Unloaded pid base length) ++ 10 ∷ [])) }
+    ensures { OnOk result (out.new.items ≡ out.old.items ++ ended (Unloaded pid base length)) }
 {
     out.extend_from_slice(b"unload ")?;
     put_dec(out, u128::from(pid))?;
@@ -175,7 +184,8 @@ fn put_unload(out: &mut Vec<u8>, pid: u32, base: u64, length: u64) -> Result<(),
 }
 
 fn put_kernel(out: &mut Vec<u8>, base: u64, length: u64, image: &Name) -> Result<(), AllocError>
-    ensures { OnOk result (out.new.items ≡ out.old.items ++ (line_text (KernelMapped base length image.now) ++ 10 ∷ [])) }
+    ensures { OnOk result (out.new.items ≡ out.old.items ++
+        ended (KernelMapped base length image.now)) }
 {
     out.extend_from_slice(b"kernel")?;
     put_range(out, base, length)?;
@@ -194,7 +204,7 @@ fn put_range(out: &mut Vec<u8>, base: u64, length: u64) -> Result<(), AllocError
 
 // The image of a mapping, and the end of its line.
 fn put_image(out: &mut Vec<u8>, image: &Name) -> Result<(), AllocError>
-    ensures { OnOk result (out.new.items ≡ out.old.items ++ 32 ∷ (image.now ++ 10 ∷ [])) }
+    ensures { OnOk result (out.new.items ≡ out.old.items ++ (32 ∷ (image.now ++ 10 ∷ []))) }
 {
     out.push(b' ')?;
     out.extend_from_slice(image.bytes())?;
@@ -203,7 +213,7 @@ fn put_image(out: &mut Vec<u8>, image: &Name) -> Result<(), AllocError>
 }
 
 fn put_step(out: &mut Vec<u8>, step: &Step) -> Result<(), AllocError>
-    ensures { OnOk result (out.new.items ≡ out.old.items ++ (line_text (step_said step.now) ++ 10 ∷ [])) }
+    ensures { OnOk result (out.new.items ≡ out.old.items ++ ended (step_said step.now)) }
 {
     match *step {
         Step::Lane { cpu } => put_numbered(out, b"l ", cpu),
@@ -223,7 +233,7 @@ fn put_numbered(out: &mut Vec<u8>, word: &[u8], n: u32) -> Result<(), AllocError
 }
 
 fn put_poll(out: &mut Vec<u8>, cpu: u32, cell: u8) -> Result<(), AllocError>
-    ensures { OnOk result (out.new.items ≡ out.old.items ++ (line_text (Polled cpu cell) ++ 10 ∷ [])) }
+    ensures { OnOk result (out.new.items ≡ out.old.items ++ ended (Polled cpu cell)) }
 {
     out.extend_from_slice(b"d ")?;
     put_dec(out, u128::from(cpu))?;
