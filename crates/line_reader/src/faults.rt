@@ -1,3 +1,5 @@
+//! How a line ended, and why none was read.
+
 use outside_io::ReadFailed;
 use std::alloc::AllocError;
 use thiserror::Error;
@@ -16,8 +18,10 @@ pub enum Ending {
 /// Why a line was not read.
 #[derive(Clone, Copy, Debug, PartialEq, Eq, Error)]
 pub enum LineFault {
+    /// The source failed.
     #[error("a read failed")]
     ReadFault,
+    /// No memory was found.
     #[error("out of memory")]
     Memory,
 }

@@ -1,3 +1,6 @@
+//! Reads lines through a buffer: `LineReader::read_line` takes pieces of the buffer up to a line feed, and fills it anew
+//! where all was taken.
+
 ghost use Rattle.std.specs.Prelude.{◌<◌, length};
 ghost use Rattle.line_reader.specs.Pieces.{IsPiece};
 
@@ -13,8 +16,11 @@ const PIECE: usize = 65536;
 /// Reads lines from a source through a buffer of 64 KiB. It is seen as the bytes that were read and not yet taken.
 #[derive(Drop)]
 pub struct LineReader {
+    /// The buffer.
     bytes: Vec<u8>,
+    /// Where the bytes begin that were not taken yet.
     at: usize,
+    /// Where they end.
     end: usize,
 }
 
@@ -55,7 +61,9 @@ impl LineReader {
         limit: usize,
     ) -> Result<Ending, LineFault>
         requires { limit < 2 ^ 32 }
-        ensures line { IfOk result (λ ending. ReadsLine limit ending line.new.items (prepend_known self.old (S.left source.old)) (prepend_known self.new (S.left source.new))) }
+        ensures line { IfOk result (λ ending. ReadsLine limit ending line.new.items
+            (prepend_known self.old (S.left source.old))
+            (prepend_known self.new (S.left source.new))) }
         ensures cause { HasLineCause (S.faults source.old) (S.faults source.new) result }
     {
         line.clear();
@@ -83,7 +91,8 @@ impl LineReader {
 
     // Reads more where all was taken; nothing is left then only at the end of the input.
     fn refill<S: Source>(&mut self, source: &mut S) -> Result<(), ReadFailed>
-        ensures bytes { OnOk result (Consumes (prepend_known self.old (S.left source.old)) (prepend_known self.new (S.left source.new)) []) }
+        ensures bytes { OnOk result (Consumes (prepend_known self.old (S.left source.old))
+            (prepend_known self.new (S.left source.new)) []) }
         ensures end { OnOk result (self.new ≡ [] → IsAtEnd (S.left source.new)) }
         ensures cause { HasCause (S.faults source.old) (S.faults source.new) result }
     {
@@ -109,7 +118,9 @@ impl LineReader {
     fn take_piece(&mut self, line: &mut Vec<u8>, room: usize) -> Result<bool, AllocError>
         requires some { self.old ≢ [] }
         requires room { 0 < room }
-        ensures { IfOk result (λ ended. (piece : List ℕ) × (line.new.items ≡ line.old.items ++ piece) × TakesPiece ended room piece self.old self.new) }
+        ensures { IfOk result (λ ended. (piece : List ℕ) ×
+            (line.new.items ≡ line.old.items ++ piece) ×
+            TakesPiece ended room piece self.old self.new) }
     {
         let pending = &self.bytes[self.at..self.end];
         let (taken, ended) = piece_of(pending, room);

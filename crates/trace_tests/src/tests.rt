@@ -84,36 +84,116 @@ const BAD: &[(&[u8], u64, TraceWhy)] = &[
     (b"dcpi-trace 1 cpus 1\n", 2, TraceWhy::NoEnd),
     (b"dcpi-trace 2 cpus 1\n", 1, TraceWhy::NotHeader),
     (b"dcpi-trace 1 cpus 0\n", 1, TraceWhy::OutOfRange),
-    (b"dcpi-trace 1 cpus 1 buckets 3 buffer 8\n", 1, TraceWhy::OutOfRange),
+    (
+        b"dcpi-trace 1 cpus 1 buckets 3 buffer 8\n",
+        1,
+        TraceWhy::OutOfRange,
+    ),
     (b"dcpi-trace 1 cpus 01\n", 1, TraceWhy::BadNumber),
-    (b"dcpi-trace 1 cpus 1\nend\ns 0 7 1000 cycles\n", 3, TraceWhy::AfterEnd),
-    (b"dcpi-trace 1 cpus 1\ns 1 7 1000 cycles\nend\n", 2, TraceWhy::NoSuchCpu),
-    (b"dcpi-trace 1 cpus 1\ns 0 7 1000 stalls\nend\n", 2, TraceWhy::BadWord),
-    (b"dcpi-trace 1 cpus 1\ns 0 7 100C cycles\nend\n", 2, TraceWhy::BadNumber),
-    (b"dcpi-trace 1 cpus 1\nload 7 0 0 A\nend\n", 2, TraceWhy::OutOfRange),
-    (b"dcpi-trace 1 cpus 1\nload 7 fffffffffffffff8 8 A\nend\n", 2, TraceWhy::OutOfRange),
-    (b"dcpi-trace 1 cpus 1\ndrain\nscan 7 0 4 A\nend\n", 3, TraceWhy::ScanTooLate),
-    (b"dcpi-trace 1 cpus 1\nend\nd 0 3\n", 3, TraceWhy::OutOfRange),
+    (
+        b"dcpi-trace 1 cpus 1\nend\ns 0 7 1000 cycles\n",
+        3,
+        TraceWhy::AfterEnd,
+    ),
+    (
+        b"dcpi-trace 1 cpus 1\ns 1 7 1000 cycles\nend\n",
+        2,
+        TraceWhy::NoSuchCpu,
+    ),
+    (
+        b"dcpi-trace 1 cpus 1\ns 0 7 1000 stalls\nend\n",
+        2,
+        TraceWhy::BadWord,
+    ),
+    (
+        b"dcpi-trace 1 cpus 1\ns 0 7 100C cycles\nend\n",
+        2,
+        TraceWhy::BadNumber,
+    ),
+    (
+        b"dcpi-trace 1 cpus 1\nload 7 0 0 A\nend\n",
+        2,
+        TraceWhy::OutOfRange,
+    ),
+    (
+        b"dcpi-trace 1 cpus 1\nload 7 fffffffffffffff8 8 A\nend\n",
+        2,
+        TraceWhy::OutOfRange,
+    ),
+    (
+        b"dcpi-trace 1 cpus 1\ndrain\nscan 7 0 4 A\nend\n",
+        3,
+        TraceWhy::ScanTooLate,
+    ),
+    (
+        b"dcpi-trace 1 cpus 1\nend\nd 0 3\n",
+        3,
+        TraceWhy::OutOfRange,
+    ),
     (b"dcpi-trace 1 cpus 1\ns 0 7 10", 2, TraceWhy::NoEnd),
     (b"dcpi-trace 1 cpus 1\nend\na", 3, TraceWhy::AfterEnd),
-    (b"dcpi-trace 1 cpus 1\nload 7 1000 4 \x7f\nend\n", 2, TraceWhy::BadName),
-    (b"dcpi-trace 1 cpus 1\ns 0 7 1002 cycles\nend\n", 2, TraceWhy::Unaligned),
+    (
+        b"dcpi-trace 1 cpus 1\nload 7 1000 4 \x7f\nend\n",
+        2,
+        TraceWhy::BadName,
+    ),
+    (
+        b"dcpi-trace 1 cpus 1\ns 0 7 1002 cycles\nend\n",
+        2,
+        TraceWhy::Unaligned,
+    ),
 ];
 
 /// Lines to which two reasons apply: the reason that is told is the first.
 const TWO_REASONS: &[(&[u8], u64, TraceWhy)] = &[
     (b"dcpi-trace 2 cpus 01\n", 1, TraceWhy::NotHeader),
     (b"s 0 7 1000 cycles\n", 1, TraceWhy::NotHeader),
-    (b"dcpi-trace 1 cpus 1\ns 0 07 1000 stalls\n", 2, TraceWhy::BadWord),
+    (
+        b"dcpi-trace 1 cpus 1\ns 0 07 1000 stalls\n",
+        2,
+        TraceWhy::BadWord,
+    ),
     (b"dcpi-trace 1 cpus 1\nend\ns 0 7\n", 3, TraceWhy::AfterEnd),
-    (b"dcpi-trace 1 cpus 1\nend\nd 00 3 0\n", 3, TraceWhy::AfterEnd),
-    (b"dcpi-trace 1 cpus 1\nend\nd 00 3\n", 3, TraceWhy::BadNumber),
-    (b"dcpi-trace 1 cpus 1\ns 16 07 1000 cycles\n", 2, TraceWhy::BadNumber),
-    (b"dcpi-trace 1 cpus 1\ns 16 7 1002 cycles\n", 2, TraceWhy::OutOfRange),
-    (b"dcpi-trace 1 cpus 1\nload 7 2 4 \x7f\n", 2, TraceWhy::Unaligned),
-    (b"dcpi-trace 1 cpus 1\ns 1 7 1002 cycles\n", 2, TraceWhy::Unaligned),
-    (b"dcpi-trace 1 cpus 1\ndrain\nscan 7 0 4 \x7f\n", 3, TraceWhy::BadName),
-    (b"dcpi-trace 1 cpus 1\ns 1 7 1002 stalls", 2, TraceWhy::NoEnd),
+    (
+        b"dcpi-trace 1 cpus 1\nend\nd 00 3 0\n",
+        3,
+        TraceWhy::AfterEnd,
+    ),
+    (
+        b"dcpi-trace 1 cpus 1\nend\nd 00 3\n",
+        3,
+        TraceWhy::BadNumber,
+    ),
+    (
+        b"dcpi-trace 1 cpus 1\ns 16 07 1000 cycles\n",
+        2,
+        TraceWhy::BadNumber,
+    ),
+    (
+        b"dcpi-trace 1 cpus 1\ns 16 7 1002 cycles\n",
+        2,
+        TraceWhy::OutOfRange,
+    ),
+    (
+        b"dcpi-trace 1 cpus 1\nload 7 2 4 \x7f\n",
+        2,
+        TraceWhy::Unaligned,
+    ),
+    (
+        b"dcpi-trace 1 cpus 1\ns 1 7 1002 cycles\n",
+        2,
+        TraceWhy::Unaligned,
+    ),
+    (
+        b"dcpi-trace 1 cpus 1\ndrain\nscan 7 0 4 \x7f\n",
+        3,
+        TraceWhy::BadName,
+    ),
+    (
+        b"dcpi-trace 1 cpus 1\ns 1 7 1002 stalls",
+        2,
+        TraceWhy::NoEnd,
+    ),
 ];
 
 #[test]

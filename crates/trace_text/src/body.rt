@@ -10,6 +10,7 @@ ghost use Rattle.trace_model.specs.declared.limits.TheConstants.{MOST_PARTS, MOS
 ghost use Rattle.trace_model.specs.Grammar.{verdict, verdict_on};
 ghost use Rattle.trace_text.specs.Entries.{record_may_precede_scan};
 ghost use Rattle.trace_text.specs.State.{FaultOf, Passes};
+
 use crate::body_lines::{
     BodyForm, BodyLine, BodyValues, NoticeLine, NoticeValues, SampleValues, body_form, is_aligned,
     is_spelled, is_titled, read_values,
@@ -122,7 +123,8 @@ impl Body {
     // What a line whose words are in order says, or the first reason why it is refused.
     fn judge<'a>(&self, form: &BodyForm<'a>) -> Result<BodyValues<'a>, TraceWhy>
         requires { IsSound self.now }
-        ensures judged { IsJudged result (verdict_on (said_in_body self.now) (body_shown form.now)) }
+        ensures judged { IsJudged result
+            (verdict_on (said_in_body self.now) (body_shown form.now)) }
         ensures passes { IfOk result (λ line. Passes (said_in_body self.now) (values_shown line)) }
     {
         let Some(values) = read_values(form) else {

@@ -50,11 +50,7 @@ pub enum NoticeLine<'a, D, H> {
     /// The end of a process.
     Exit { pid: D },
     /// A mapping of the kernel.
-    Kernel {
-        base: H,
-        length: H,
-        image: &'a [u8],
-    },
+    Kernel { base: H, length: H, image: &'a [u8] },
     /// A complete flush is asked for.
     Drain,
     /// What was gathered is committed.
@@ -84,14 +80,17 @@ pub type BodyValues<'a> = BodyLine<'a, u32, u64>;
 
 /// A sample's line with its fields as they stand, and with their values.
 pub type SampleForm<'a> = SampleLine<&'a [u8], &'a [u8]>;
+
 pub type SampleValues = SampleLine<u32, u64>;
 
 /// A record's line with its fields as they stand, and with their values.
 pub type NoticeForm<'a> = NoticeLine<'a, &'a [u8], &'a [u8]>;
+
 pub type NoticeValues<'a> = NoticeLine<'a, u32, u64>;
 
 /// A mapping's line with its fields as they stand, and with their values.
 pub type MappingForm<'a> = MappingLine<'a, &'a [u8], &'a [u8]>;
+
 pub type MappingValues<'a> = MappingLine<'a, u32, u64>;
 
 /// The form of a line of the body; nothing where it has none.
@@ -171,7 +170,8 @@ fn with_four<'a>(
     c: &'a [u8],
     d: &'a [u8],
 ) -> Option<BodyForm<'a>>
-    ensures { option_map body_shown result ≡ body_of (word.now ∷ a.now ∷ b.now ∷ c.now ∷ d.now ∷ []) }
+    ensures { option_map body_shown result ≡
+        body_of (word.now ∷ a.now ∷ b.now ∷ c.now ∷ d.now ∷ []) }
 {
     if word == b"s".as_slice() {
         match Event::of_name(d) {

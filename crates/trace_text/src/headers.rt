@@ -69,7 +69,8 @@ pub fn header_form(line: &[u8]) -> Option<HeaderForm<'_>>
 }
 
 fn long_form<'a>(front: &Four<'a>, back: &Four<'a>) -> Option<HeaderForm<'a>>
-    ensures { option_map header_shown result ≡ header_of (four_fields front.now (four_fields back.now [])) }
+    ensures { option_map header_shown result ≡
+        header_of (four_fields front.now (four_fields back.now [])) }
 {
     if front.a == b"dcpi-trace".as_slice()
         && front.b == b"1".as_slice()

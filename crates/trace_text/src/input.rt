@@ -47,7 +47,9 @@ impl Input {
         ensures faults { TellsFaults (S.faults source.old) (S.faults source.new) result }
     {
         self.number += 1;
-        let ending = self.reader.read_line(source, &mut self.line, MOST_LINE_BYTES)?;
+        let ending = self
+            .reader
+            .read_line(source, &mut self.line, MOST_LINE_BYTES)?;
         Ok(ending)
     }
 

@@ -39,7 +39,8 @@ pub fn take_step(body: &Body, steps: &mut Vec<Step>, line: &[u8]) -> Result<(), 
 fn judge(body: &Body, steps: &Vec<Step>, form: &StepForm<'_>) -> Result<Step, TraceWhy>
     requires { AreSteps body.now steps.now.items }
     ensures judged { JudgesStep body.now steps.now.items (step_shown form.now) result }
-    ensures passes { IfOk result (λ step. Passes (said_with_steps body.now steps.now.items) (step_said step)) }
+    ensures passes { IfOk result (λ step.
+        Passes (said_with_steps body.now steps.now.items) (step_said step)) }
 {
     let Some(step) = read_step(form) else {
         return Err(why_not_read(is_spelled(form)));

@@ -1,4 +1,3 @@
-use Rattle.std.proofs.Common.{rules, arith, subst, List, ℕ, min, length, take}
 use Rattle.line_reader.proofs.Pieces.{found_piece, none_piece}
 use Rattle.line_reader.proofs.readers.piece_of.Goals as goal
 
