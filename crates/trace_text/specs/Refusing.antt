@@ -6,6 +6,7 @@ use Rattle.std.specs.declared.result.Result.TheVariants.{Ok, Err}
 use Rattle.outside_io.specs.Causes.{Rose}
 use Rattle.line_reader.specs.declared.faults.LineFault.{LineFault}
 use Rattle.line_reader.specs.declared.faults.LineFault.TheVariants as faults
+use Rattle.trace_model.specs.declared.reasons.TraceWhy.{TraceWhy}
 use Rattle.trace_model.specs.Said.{Said}
 use Rattle.trace_model.specs.Grammar.{FirstBad}
 use Rattle.trace_text.specs.declared.refusals.LineRefusal.{LineRefusal}
@@ -38,22 +39,30 @@ IsLineFaultOnly (Err ReadFault) = Unit {0}
 IsLineFaultOnly (Err (Bad line why)) = ⊥
 IsLineFaultOnly (Err Memory) = Unit {0}
 
--- where the reading stops at a bad line
+-- what is said of a bad line that is answered, by its number and its reason; nothing is said of other answers
+abbrev pub IfBad : (ℕ → TraceWhy → Type 0) → TraceRefusal → Type 0
+IfBad says (Bad line why) = says line why
+IfBad says ReadFault = Unit {0}
+IfBad says Memory = Unit {0}
+
+abbrev pub OnBad : {T : Type 0} → (ℕ → TraceWhy → Type 0) → Result T TraceRefusal → Type 0
+OnBad says (Ok value) = Unit {0}
+OnBad says (Err refusal) = IfBad says refusal
+
+-- where the reading stops at a bad line: behind what was said, and behind so many lines
 abbrev pub HaltsBy : Option (List ℕ) → List (Said ℕ) → ℕ → TraceRefusal → Type 0
-HaltsBy old before count (Bad line why) = Stops old before count line why
-HaltsBy old before count ReadFault = Unit {0}
-HaltsBy old before count Memory = Unit {0}
+HaltsBy old before count refusal = IfBad (Stops old before count) refusal
 
 abbrev pub Halts : {T : Type 0} → Option (List ℕ) → List (Said ℕ) → ℕ → Result T TraceRefusal → Type 0
-Halts old before count (Ok value) = Unit {0}
-Halts old before count (Err refusal) = HaltsBy old before count refusal
+Halts old before count result = OnBad (Stops old before count) result
+
+-- a line is the first bad one of the input, for its first reason
+abbrev pub IsFirstBad : Option (List ℕ) → ℕ → TraceWhy → Type 0
+IsFirstBad input line why = IfSome input (λ bytes. FirstBad bytes line why)
 
 -- a bad line that is answered is the first one, with its first reason
 abbrev pub IsFirstBadBy : Option (List ℕ) → TraceRefusal → Type 0
-IsFirstBadBy input (Bad line why) = IfSome input (λ bytes. FirstBad bytes line why)
-IsFirstBadBy input ReadFault = Unit {0}
-IsFirstBadBy input Memory = Unit {0}
+IsFirstBadBy input refusal = IfBad (IsFirstBad input) refusal
 
 abbrev pub IsFirstBadOf : {T : Type 0} → Option (List ℕ) → Result T TraceRefusal → Type 0
-IsFirstBadOf input (Ok value) = Unit {0}
-IsFirstBadOf input (Err refusal) = IsFirstBadBy input refusal
+IsFirstBadOf input result = OnBad (IsFirstBad input) result
