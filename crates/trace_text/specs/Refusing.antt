@@ -1,5 +1,5 @@
 -- When a trace is refused, and for what.
-use Rattle.std.specs.Prelude.{◌≡◌, ℕ, List, IfSome}
+use Rattle.std.specs.Prelude.{◌≡◌, ℕ, ◌≤◌, List, IfSome}
 use Rattle.std.specs.declared.option.Option.{Option}
 use Rattle.std.specs.declared.result.Result.{Result}
 use Rattle.std.specs.declared.result.Result.TheVariants.{Ok, Err}
@@ -20,10 +20,10 @@ abbrev pub IsOfLineFault : LineFault → TraceRefusal → Type 0
 IsOfLineFault faults.ReadFault refusal = refusal ≡ ReadFault
 IsOfLineFault faults.Memory refusal = refusal ≡ Memory
 
--- the count of faults rose where a read failed, and else stays, so that no fault is passed over
+-- the count of faults rose where a read failed, and never falls; else it stays, so that no fault is passed over
 abbrev pub TellsFaults : {T : Type 0} → ℕ → ℕ → Result T TraceRefusal → Type 0
 TellsFaults before now (Ok value) = now ≡ before
-TellsFaults before now (Err ReadFault) = Rose before now
+TellsFaults before now (Err ReadFault) = (before ≤ now) × Rose before now
 TellsFaults before now (Err (Bad line why)) = now ≡ before
 TellsFaults before now (Err Memory) = now ≡ before
 
