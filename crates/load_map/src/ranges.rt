@@ -1,6 +1,6 @@
 //! An ordered list of ranges without overlaps: `Ranges::place` finds an address by halving, `Ranges::put` and
 //! `Ranges::cut` cut what a range covers. The ranges rise and stand apart at every moment.
-ghost use Rattle.std.specs.Prelude.{◌≡◌, ℕ, ◌≤◌, ◌<◌, ◌+◌, ◌%◌, min, length, List, [], ◌∷◌, ◌++◌, IfOk, OnOk, OnErr, IfSome, option_to_list};
+ghost use Rattle.std.specs.Prelude.{◌≡◌, ℕ, ◌≤◌, ◌<◌, ◌+◌, ◌%◌, min, length, nat_le, List, [], ◌∷◌, ◌++◌, IfOk, OnOk, OnErr, IfSome, option_to_list};
 ghost use Rattle.load_map.specs.Ranges.{IsRange, RangesFrom, place_at, place_in, with_range, without_range, exchanged, left_of, right_of, first_place, ended_by};
 
 use std::alloc::{AllocError, Global};
@@ -98,7 +98,13 @@ fn count_ended(ranges: &[Range], pc: u64) -> usize
     ensures count { result ≡ ended_by pc ranges.now }
     ensures bound { result ≤ length ranges.now }
 {
-    ranges.partition_point(|range| range.end <= pc)
+    ranges.partition_point(|range| has_ended(range, pc))
+}
+
+fn has_ended(range: &Range, pc: u64) -> bool
+    ensures { result ≡ nat_le range.now.end pc }
+{
+    range.end <= pc
 }
 
 // Where an address lies that is below the end of the first of these ranges.
