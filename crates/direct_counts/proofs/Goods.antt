@@ -6,11 +6,11 @@ use Rattle.std.proofs.lemmas.Bool.{and_parts, and_from, or_parts, not-false, leb
 use Rattle.trace_model.specs.declared.reasons.TraceWhy.{TraceWhy}
 use Rattle.trace_model.specs.declared.notices.Record.{Record}
 use Rattle.trace_model.specs.declared.notices.Record.TheVariants.{Scan, Load, Unload, Exec, Exit, Kernel, Drain, Merge, Epoch}
-use Rattle.trace_model.specs.Counting.{begins_epoch}
+use Rattle.trace_model.specs.Parts.{begins_epoch}
 use Rattle.trace_model.specs.Grammar.{first_that_applies, value_tests, is_record_too_many}
 use Rattle.trace_model.specs.Recording.{are_good, keeps_ranges, record_said}
 use Rattle.trace_model.proofs.Tests.{all_clear}
-use Rattle.trace_model.specs.Said.{Said, EpochBegun, every, tested, is_within, is_aligned, is_titled, is_record, ends_part}
+use Rattle.trace_model.specs.Said.{Said, EpochBegun, every, tested, is_within, is_aligned, is_titled, is_record, is_part_end}
 
 -- what a good line passes
 pub record Passes (before : List (Said ℕ)) (said : Said ℕ) : Type 0 where
@@ -58,11 +58,11 @@ aligned_alike images Epoch = refl
 pub keeps : (before : List (Said ℕ)) (images : List (List ℕ)) (entry : Record) → Passes before (record_said images entry) → keeps_ranges entry ≡ true
 keeps before images entry p = and_from (every is_within (tested (record_said [] entry))) (every is_aligned (tested (record_said [] entry))) (within_alike images entry ∙ p.within) (aligned_alike images entry ∙ p.aligned)
 
-few_epochs : (before : List (Said ℕ)) → is_record_too_many before EpochBegun ≡ false → count_by ends_part before < 1024
-few_epochs before h = leb-false 1024 (count_by ends_part before) (or_parts (leb 65536 (count_by is_record before)) (leb 1024 (count_by ends_part before)) h).1
+few_epochs : (before : List (Said ℕ)) → is_record_too_many before EpochBegun ≡ false → count_by is_part_end before < 1024
+few_epochs before h = leb-false 1024 (count_by is_part_end before) (or_parts (leb 65536 (count_by is_record before)) (leb 1024 (count_by is_part_end before)) h).1
 
 -- a good epoch is one of 1,024 at most
-pub epoch_fits : (before : List (Said ℕ)) (images : List (List ℕ)) (entry : Record) → Passes before (record_said images entry) → begins_epoch entry ≡ true → count_by ends_part before < 1024
+pub epoch_fits : (before : List (Said ℕ)) (images : List (List ℕ)) (entry : Record) → Passes before (record_said images entry) → begins_epoch entry ≡ true → count_by is_part_end before < 1024
 epoch_fits before images (Scan process base size image) p h = absurd (false≢true h)
 epoch_fits before images (Load process base size image) p h = absurd (false≢true h)
 epoch_fits before images (Unload process base size) p h = absurd (false≢true h)
@@ -74,7 +74,7 @@ epoch_fits before images Merge p h = absurd (false≢true h)
 epoch_fits before images Epoch p h = few_epochs before p.few
 
 -- an epoch ends a part
-pub epoch_ends : (images : List (List ℕ)) (entry : Record) → cond (begins_epoch entry) 1 0 ≤ cond (ends_part (record_said images entry)) 1 0
+pub epoch_ends : (images : List (List ℕ)) (entry : Record) → cond (begins_epoch entry) 1 0 ≤ cond (is_part_end (record_said images entry)) 1 0
 epoch_ends images (Scan process base size image) = omega arith
 epoch_ends images (Load process base size image) = omega arith
 epoch_ends images (Unload process base size) = omega arith

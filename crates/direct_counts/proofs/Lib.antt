@@ -3,4 +3,7 @@ pub mod Naming
 pub mod Order
 pub mod Rows
 pub mod Sorting
+pub mod Tallying
 pub mod Steps
+pub mod Ranking
+pub mod Listing

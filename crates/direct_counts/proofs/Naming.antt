@@ -10,9 +10,8 @@ use Rattle.trace_model.specs.declared.notices.Place.{Place}
 use Rattle.trace_model.specs.declared.notices.Record.{Record}
 use Rattle.trace_model.specs.declared.notices.Record.TheVariants.{Scan, Load, Unload, Exec, Exit, Kernel, Drain, Merge, Epoch}
 use Rattle.trace_model.specs.Attribution.{covers, place_if_covered, Verdict, GoesOn, Decides, by_mapping, decides_where, says, decided_by, own_place, kernel_mapping, or_else, kernel_place, place_after}
-use Rattle.trace_model.specs.Recording.{name_at, record_said}
+use Rattle.trace_model.specs.Recording.{HasImage, name_at, record_said}
 use Rattle.trace_model.specs.Said.{every, tested, is_titled}
-use Rattle.direct_counts.specs.Walks.{HasImage}
 
 -- a record names an image, where it names one
 abbrev pub IsTitled : List (List ℕ) → Record → Type 0

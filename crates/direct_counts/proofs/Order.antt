@@ -58,18 +58,18 @@ chained a b c h k = by_parts_is a c ∙ by_parts_total.trans a b c (sym (by_part
 pub tied : (a : Spot) → spot_cmp a a ≡ Equal
 tied a = by_parts_is a a ∙ tied_itself by_parts_total a
 
-both_same : {a b c d : Bool} → a ≡ b → c ≡ d → (a && c) ≡ (b && d)
+pub both_same : {a b c d : Bool} → a ≡ b → c ≡ d → (a && c) ≡ (b && d)
 both_same p q = rw (p, q) refl
 
 equal_numbers : (x y : ℕ) → is_eq (nat_cmp x y) ≡ eqb x y
 equal_numbers x y = grind (arith, nat_tests)
 
-four_and : (a b c d : Bool) → (a && (b && (c && d))) ≡ (((a && b) && c) && d)
+pub four_and : (a b c d : Bool) → (a && (b && (c && d))) ≡ (((a && b) && c) && d)
 four_and false b c d = refl
 four_and true false c d = refl
 four_and true true c d = refl
 
-three_and : (a b c : Bool) → (a && (b && c)) ≡ ((a && b) && c)
+pub three_and : (a b c : Bool) → (a && (b && c)) ≡ ((a && b) && c)
 three_and false b c = refl
 three_and true b c = refl
 

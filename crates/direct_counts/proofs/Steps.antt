@@ -2,31 +2,37 @@
 use Rattle.std.proofs.Common.{◌≡◌, ℕ, suc, ◌+◌, ◌^◌, ◌<◌, ◌≤◌, true, cond, if◌then◌else◌, List, [], ◌∷◌, ◌++◌, length, map, refl, ap, sym, ◌∙◌, arith, Result, Ok, Err, OnOk}
 use Rattle.std.specs.Prelude.{unwrap_or}
 use Rattle.std.specs.declared.option.Option.{Option}
+use Rattle.std.specs.declared.option.Option.TheVariants.{Some, None}
 use Rattle.std.specs.List.{count_by}
 use Rattle.std.specs.Map.{lookup}
-use Rattle.std.specs.BTreeMap.{insert_entry, is_at}
 use Rattle.std.proofs.lemmas.List.{append_assoc, length_push}
 use Rattle.std.proofs.lemmas.List.Sums.{count_by-le-length}
 use Rattle.sample_key.specs.declared.keys.Key.{Key}
 use Rattle.load_map.specs.declared.maps.LoadMap.{LoadMap}
-use Rattle.load_map.specs.Maps.{StandsFor}
+use Rattle.load_map.specs.Maps.{Applies, Finds, StandsFor}
 use Rattle.trace_model.specs.declared.notices.Line.{Line}
 use Rattle.trace_model.specs.declared.notices.Line.TheVariants.{Sample, Rec}
 use Rattle.trace_model.specs.declared.notices.Place.{Place}
 use Rattle.trace_model.specs.declared.notices.Record.{Record}
-use Rattle.trace_model.specs.Attribution.{place_after}
-use Rattle.trace_model.specs.Counting.{Row, Spot, begins_epoch, epoch_after, listed_at, same_spot, spot_at, spots_from, spots_in}
 use Rattle.trace_model.specs.declared.recordings.Trace.{Trace}
-use Rattle.trace_model.specs.Recording.{keeps_ranges, line_said, record_said, step_said}
+use Rattle.trace_model.specs.Attribution.{place_after}
+use Rattle.trace_model.specs.Counting.{Spot, same_spot, spot_at, spots_from, spots_in}
+use Rattle.trace_model.specs.Counting as counting
+use Rattle.trace_model.specs.Parts.{begins_epoch, epoch_after}
+use Rattle.trace_model.specs.Recording.{HasImage, keeps_ranges, line_said, record_said, step_said}
 use Rattle.trace_model.specs.Traces.{recording_of}
-use Rattle.trace_model.specs.Said.{LongHeader, Ended, ends_part}
+use Rattle.trace_model.specs.Said.{LongHeader, Ended, is_part_end}
+use Rattle.direct_counts.specs.declared.ranks.Ranking.{Ranking}
 use Rattle.direct_counts.specs.declared.sites.Site.{Site}
-use Rattle.direct_counts.specs.Sites.{spot_shown, rows_in}
-use Rattle.direct_counts.specs.Walks.{HasImage, Walks}
+use Rattle.direct_counts.specs.declared.walks.Walk.{Walk}
+use Rattle.direct_counts.specs.Ranks.{AreRanks}
+use Rattle.direct_counts.specs.Sites.{CountsOne, HasRank, IsRanked, Tallies, site_at, spot_shown}
+use Rattle.direct_counts.specs.Walks.{CanTake, IsWalk, Takes, Walks}
 use Rattle.direct_counts.proofs.Goods.{Passes, good_first, good_rest, keeps, epoch_fits, epoch_ends}
 use Rattle.direct_counts.proofs.Naming.{own_more, kernel_more, place_has}
-use Rattle.direct_counts.proofs.Rows.{put_row, put_shown, looked_up, counted_more, count_push}
-use Rattle.direct_counts.proofs.Sorting.{site_cmp, by_spots}
+use Rattle.direct_counts.proofs.Rows.{count_push}
+use Rattle.direct_counts.proofs.Sorting.{site_eq}
+use Rattle.direct_counts.proofs.Tallying.{good_of, lookup_most, put_tallies}
 
 grows : (e c n k : ℕ) → e ≤ c → n ≡ c + k → e ≤ n
 grows e c n k h p = omega arith
@@ -37,65 +43,94 @@ shorter d n l p h = omega arith
 less_left : (d l : ℕ) → d + suc l < 2 ^ 64 → d + l < 2 ^ 64
 less_left d l h = omega arith
 
-within : (n k d l : ℕ) → n ≡ k → k ≤ d → d + suc l < 2 ^ 64 → n + 1 < 2 ^ 64
-within n k d l p h s = omega arith
+-- the site of a place of a good trace
+rank_there : (images names : List (List ℕ)) (ranks : List ℕ) (place : Option Place) → AreRanks images names ranks → HasImage images place → HasRank ranks place
+rank_there images names ranks None are h = tt
+rank_there images names ranks (Some place) are h = rw are.many h
+
+ranked_there : (images names : List (List ℕ)) (ranks : List ℕ) (epoch : ℕ) (key : Key) (place : Option Place) → AreRanks images names ranks → HasImage images place → IsRanked names (site_at epoch ranks key place)
+ranked_there images names ranks epoch key None are h = tt
+ranked_there images names ranks epoch key (Some place) are h = are.rank place.image h
+
+shown_there : (images names : List (List ℕ)) (ranks : List ℕ) (epoch : ℕ) (key : Key) (place : Option Place) → AreRanks images names ranks → HasImage images place → spot_shown names (site_at epoch ranks key place) ≡ spot_at epoch images key place
+shown_there images names ranks epoch key None are h = refl
+shown_there images names ranks epoch key (Some place) are h = ap (λ (name : List ℕ). counting.Known epoch name key.event place.offset) (are.named place.image h)
+
+has_image : (images : List (List ℕ)) (walk : Walk) (all : List Spot) (left : List Line) → IsWalk images walk all left → (pid pc : ℕ) (place : Option Place) → Finds walk.mappings pid pc place → HasImage images place
+has_image images walk all left w pid pc place h = rw (h w.records w.stands) (place_has images w.records pid pc (w.own pid pc) (w.kernel pc))
+
+-- a sample has a rank to look up
+pub may_rank : (walk : Walk) (line : Line) (pid pc : ℕ) (place : Option Place) → CanTake walk line → Finds walk.mappings pid pc place → HasRank walk.ranking.now.ranks.items place
+may_rank walk line pid pc place can h = rank_there can.0 walk.ranking.now.names.items walk.ranking.now.ranks.items place can.3.are_ranks (has_image can.0 walk can.1 (line ∷ can.2) can.3 pid pc place h)
+
+one_fits : (o : Option ℕ) (most : ℕ) → most + 1 < 2 ^ 64 → ((n : ℕ) → o ≡ Some n → n ≤ most) → unwrap_or o 0 + 1 < 2 ^ 64
+one_fits None most h f = omega arith
+one_fits (Some n) most h f = let below = f n refl in omega arith
+
+within : (t k d l : ℕ) → t ≡ k → k ≤ d → d + suc l < 2 ^ 64 → t + 1 < 2 ^ 64
+within t k d l p h s = omega arith
 
 -- one more sample can be counted
-pub room : {images : List (List ℕ)} {mappings : LoadMap} {epoch : ℕ} {rows : List Row} {all : List Spot} {line : Line} {left : List Line} → Walks images mappings epoch rows all (line ∷ left) → (x : Spot) → listed_at x rows + 1 < 2 ^ 64
-room {rows = rows} {left = left} w x = within (listed_at x rows) (count_by (same_spot x) w.done) (length w.done) (length left) (w.counted.counts x) (count_by-le-length (same_spot x) w.done) w.short
-
-pub fits : (es : List (Site × ℕ)) (site : Site) → listed_at (spot_shown site) (rows_in es) + 1 < 2 ^ 64 → unwrap_or (lookup (is_at (site_cmp site)) es) 0 + 1 < 2 ^ 64
-fits es site h = rw (looked_up site_cmp by_spots es site) h
-
--- an address has its image
-pub place_in : {images : List (List ℕ)} {mappings : LoadMap} {epoch : ℕ} {rows : List Row} {all : List Spot} {left : List Line} → Walks images mappings epoch rows all left → (pid pc : ℕ) (place : Option Place) → ((records : List Record) → StandsFor mappings records → place ≡ place_after records pid pc) → HasImage images place
-place_in {images} w pid pc place h = rw (h w.records w.stands) (place_has images w.records pid pc (w.own pid pc) (w.kernel pc))
+pub may_count : (walk : Walk) (line : Line) (key : Key) (place : Option Place) (site : Site) → CanTake walk line → Finds walk.mappings key.pid key.pc place → site ≡ site_at walk.epoch walk.ranking.now.ranks.items key place → unwrap_or (lookup (site_eq site) walk.counts.entries) 0 + 1 < 2 ^ 64
+may_count walk line key place site can finds is =
+    let images = can.0 in
+    let left = can.2 in
+    let w = can.3 in
+    let names = walk.ranking.now.names.items in
+    let ranked : IsRanked names site = rw is (ranked_there images names walk.ranking.now.ranks.items walk.epoch key place w.are_ranks (has_image images walk can.1 (line ∷ left) w key.pid key.pc place finds)) in
+    let spot = spot_shown names site in
+    one_fits (lookup (site_eq site) walk.counts.entries) _
+    (within _ (count_by (same_spot spot) w.done) (length w.done) (length left) (w.tallied.totals spot) (count_by-le-length (same_spot spot) w.done) w.short)
+    (λ n found. lookup_most names site n walk.counts.entries ranked (good_of names walk.counts.entries w.done w.tallied) found)
 
 -- a record passes
-pub passed : {images : List (List ℕ)} {mappings : LoadMap} {epoch : ℕ} {rows : List Row} {all : List Spot} {left : List Line} (entry : Record) (line : Line) → line ≡ Rec entry → (w : Walks images mappings epoch rows all (line ∷ left)) → Passes w.before (record_said images entry)
-passed {images} {left = left} entry line is w = good_first w.before (record_said images entry) (map (line_said images) left ++ w.rest) (rw is at w.good)
+passed : (images : List (List ℕ)) (walk : Walk) (all : List Spot) (left : List Line) (entry : Record) (line : Line) → line ≡ Rec entry → (w : IsWalk images walk all (line ∷ left)) → Passes w.before (record_said images entry)
+passed images walk all left entry line is w = good_first w.before (record_said images entry) (map (line_said images) left ++ w.rest) (rw is at w.good)
 
-pub may_apply : {images : List (List ℕ)} {mappings : LoadMap} {epoch : ℕ} {rows : List Row} {all : List Spot} {left : List Line} (entry : Record) (line : Line) → line ≡ Rec entry → Walks images mappings epoch rows all (line ∷ left) → keeps_ranges entry ≡ true
-may_apply {images} entry line is w = keeps w.before images entry (passed entry line is w)
+pub may_apply : (walk : Walk) (entry : Record) (line : Line) → line ≡ Rec entry → CanTake walk line → keeps_ranges entry ≡ true
+may_apply walk entry line is can = keeps can.3.before can.0 entry (passed can.0 walk can.1 can.2 entry line is can.3)
 
 small : (e c : ℕ) → e ≤ c → c < 1024 → e + 1 < 2 ^ 32
 small e c h k = omega arith
 
-pub may_begin : {images : List (List ℕ)} {mappings : LoadMap} {epoch : ℕ} {rows : List Row} {all : List Spot} {left : List Line} (entry : Record) (line : Line) → line ≡ Rec entry → Walks images mappings epoch rows all (line ∷ left) → begins_epoch entry ≡ true → epoch + 1 < 2 ^ 32
-may_begin {images} {epoch = epoch} entry line is w h = small epoch (count_by ends_part w.before) w.epochs (epoch_fits w.before images entry (passed entry line is w) h)
-
-sample_more : (images : List (List ℕ)) (mappings : LoadMap) (epoch : ℕ) (rows new : List Row) (all : List Spot) (left : List Line) (cpu : ℕ) (key : Key) (place : Option Place) (x : Spot) → ((records : List Record) → StandsFor mappings records → place ≡ place_after records key.pid key.pc) → x ≡ spot_at epoch images key place → new ≡ put_row rows x (listed_at x rows + 1) → Walks images mappings epoch rows all (Sample cpu key ∷ left) → Walks images mappings epoch new all left
-sample_more images mappings epoch rows new all left cpu key place x places is put w =
-    let said = line_said images (Sample cpu key) in
-    let there = spot_at (epoch_after 0 w.records) images key (place_after w.records key.pid key.pc) in
-    let x_is : x ≡ there = is ∙ (ap (λ (n : ℕ). spot_at n images key place) w.epoch_is ∙ ap (λ (o : Option Place). spot_at (epoch_after 0 w.records) images key o) (places w.records w.stands)) in
-    record {
-      before = w.before ++ said ∷ [];
-      rest = w.rest;
-      records = w.records;
-      done = w.done ++ x ∷ [];
-      good = good_rest w.before said (map (line_said images) left ++ w.rest) w.good;
-      stands = w.stands;
-      own = w.own;
-      kernel = w.kernel;
-      epoch_is = w.epoch_is;
-      epochs = grows epoch (count_by ends_part w.before) (count_by ends_part (w.before ++ said ∷ [])) (cond (ends_part said) 1 0) w.epochs (count_push ends_part w.before said);
-      counted = rw put (counted_more rows w.done x w.counted);
-      whole = w.whole ∙ (ap (λ (s : Spot). w.done ++ (s ∷ spots_from 0 images w.records left)) (sym x_is) ∙ sym (append_assoc w.done (x ∷ []) (spots_from 0 images w.records left)));
-      short = shorter (length w.done) (length (w.done ++ x ∷ [])) (length left) (length_push w.done x) w.short;
-    }
+pub may_begin : (walk : Walk) (entry : Record) (line : Line) → line ≡ Rec entry → CanTake walk line → begins_epoch entry ≡ true → walk.epoch + 1 < 2 ^ 32
+may_begin walk entry line is can h = small walk.epoch (count_by is_part_end can.3.before) can.3.epochs (epoch_fits can.3.before can.0 entry (passed can.0 walk can.1 can.2 entry line is can.3) h)
 
 -- a sample was counted
-pub sample_taken : {T F : Type 0} (r : Result T F) (images : List (List ℕ)) (mappings : LoadMap) (epoch : ℕ) (old new : List (Site × ℕ)) (line : Line) (cpu : ℕ) (key : Key) (place : Option Place) (site : Site)
-    → line ≡ Sample cpu key → ((records : List Record) → StandsFor mappings records → place ≡ place_after records key.pid key.pc) → spot_shown site ≡ spot_at epoch images key place
-    → OnOk r (new ≡ insert_entry site_cmp old site (unwrap_or (lookup (is_at (site_cmp site)) old) 0 + 1))
-    → OnOk r ((all : List Spot) (left : List Line) → Walks images mappings epoch (rows_in old) all (line ∷ left) → Walks images mappings epoch (rows_in new) all left)
-sample_taken (Err e) images mappings epoch old new line cpu key place site is places shown h = h
-sample_taken (Ok t) images mappings epoch old new line cpu key place site is places shown h = λ all left w.
-    let x = spot_shown site in
-    let put : rows_in new ≡ put_row (rows_in old) x (listed_at x (rows_in old) + 1) =
-    ap rows_in h ∙ (put_shown site_cmp by_spots old site (unwrap_or (lookup (is_at (site_cmp site)) old) 0 + 1) ∙ ap (λ (n : ℕ). put_row (rows_in old) x (n + 1)) (looked_up site_cmp by_spots old site)) in
-    sample_more images mappings epoch (rows_in old) (rows_in new) all left cpu key place x places shown put (rw is at w)
+pub sample_taken : {T F : Type 0} (r : Result T F) (before after : Walk) (line : Line) (cpu : ℕ) (key : Key) (place : Option Place) (site : Site)
+    → line ≡ Sample cpu key → Finds before.mappings key.pid key.pc place → site ≡ site_at before.epoch before.ranking.now.ranks.items key place
+    → after.ranking.now ≡ before.ranking.now → after.mappings ≡ before.mappings → after.epoch ≡ before.epoch
+    → OnOk r (CountsOne site_eq before.counts after.counts site) → OnOk r (Takes before line after)
+sample_taken (Err e) before after line cpu key place site is finds site_is ranking mappings epoch counts = counts
+sample_taken (Ok t) before after line cpu key place site is finds site_is ranking mappings epoch counts = λ images all left w.
+    let names = before.ranking.now.names.items in
+    let ranks = before.ranking.now.ranks.items in
+    let there = has_image images before all (line ∷ left) w key.pid key.pc place finds in
+    let x = spot_shown names site in
+    let said = line_said images (Sample cpu key) in
+    let good = rw is at w.good in
+    let spot : x ≡ spot_at (epoch_after 0 w.records) images key (place_after w.records key.pid key.pc) =
+    ap (spot_shown names) site_is ∙ (shown_there images names ranks before.epoch key place w.are_ranks there
+    ∙ (ap (λ (n : ℕ). spot_at n images key place) w.epoch_is ∙ ap (λ (o : Option Place). spot_at (epoch_after 0 w.records) images key o) (finds w.records w.stands))) in (
+      ranking,
+      rw (ranking, mappings, epoch) (record {
+        before = w.before ++ said ∷ [];
+        rest = w.rest;
+        records = w.records;
+        done = w.done ++ x ∷ [];
+        are_ranks = w.are_ranks;
+        good = good_rest w.before said (map (line_said images) left ++ w.rest) good;
+        stands = w.stands;
+        own = w.own;
+        kernel = w.kernel;
+        epoch_is = w.epoch_is;
+        epochs = grows before.epoch (count_by is_part_end w.before) (count_by is_part_end (w.before ++ said ∷ [])) (cond (is_part_end said) 1 0) w.epochs (count_push is_part_end w.before said);
+        tallied = put_tallies names site before.counts after.counts w.done (rw site_is (ranked_there images names ranks before.epoch key place w.are_ranks there)) counts w.tallied;
+        whole = w.whole ∙ (ap (λ (l : Line). w.done ++ spots_from 0 images w.records (l ∷ left)) is
+            ∙ (ap (λ (s : Spot). w.done ++ (s ∷ spots_from 0 images w.records left)) (sym spot) ∙ sym (append_assoc w.done (x ∷ []) (spots_from 0 images w.records left))));
+        short = shorter (length w.done) (length (w.done ++ x ∷ [])) (length left) (length_push w.done x) w.short;
+      }),
+    )
 
 epoch_next : (e c n b : ℕ) → e ≡ 0 + c → n ≡ c + b → e + b ≡ 0 + n
 epoch_next e c n b h k = omega arith
@@ -103,48 +138,51 @@ epoch_next e c n b h k = omega arith
 epoch_least : (e c n b k : ℕ) → e ≤ c → b ≤ k → n ≡ c + k → e + b ≤ n
 epoch_least e c n b k h l p = omega arith
 
-record_more : (images : List (List ℕ)) (mappings applied : LoadMap) (epoch : ℕ) (rows : List Row) (all : List Spot) (left : List Line) (entry : Record) → ((records : List Record) → StandsFor mappings records → StandsFor applied (records ++ entry ∷ [])) → Walks images mappings epoch rows all (Rec entry ∷ left) → Walks images applied (epoch + cond (begins_epoch entry) 1 0) rows all left
-record_more images mappings applied epoch rows all left entry applies w =
+-- a record was applied
+pub record_taken : (before after : Walk) (line : Line) (entry : Record) → line ≡ Rec entry → Applies before.mappings entry after.mappings
+    → after.ranking.now ≡ before.ranking.now → after.epoch ≡ before.epoch + (if begins_epoch entry then 1 else 0) → after.counts ≡ before.counts → Takes before line after
+record_taken before after line entry is applies ranking epoch counts images all left w =
     let said = record_said images entry in
     let more = map (line_said images) left ++ w.rest in
-    let p = good_first w.before said more w.good in
-    record {
-      before = w.before ++ said ∷ [];
-      rest = w.rest;
-      records = w.records ++ entry ∷ [];
-      done = w.done;
-      good = good_rest w.before said more w.good;
-      stands = applies w.records w.stands;
-      own = own_more images w.records entry p.titled w.own;
-      kernel = kernel_more images w.records entry p.titled w.kernel;
-      epoch_is = epoch_next epoch (count_by begins_epoch w.records) (count_by begins_epoch (w.records ++ entry ∷ [])) (cond (begins_epoch entry) 1 0) w.epoch_is (count_push begins_epoch w.records entry);
-      epochs = epoch_least epoch (count_by ends_part w.before) (count_by ends_part (w.before ++ said ∷ [])) (cond (begins_epoch entry) 1 0) (cond (ends_part said) 1 0) w.epochs (epoch_ends images entry) (count_push ends_part w.before said);
-      counted = w.counted;
-      whole = w.whole;
-      short = less_left (length w.done) (length left) w.short;
-    }
-
--- a record was applied
-pub record_taken : (images : List (List ℕ)) (mappings applied : LoadMap) (epoch next : ℕ) (rows : List Row) (line : Line) (entry : Record) → line ≡ Rec entry → ((records : List Record) → StandsFor mappings records → StandsFor applied (records ++ entry ∷ [])) → next ≡ epoch + (if begins_epoch entry then 1 else 0) → (all : List Spot) (left : List Line) → Walks images mappings epoch rows all (line ∷ left) → Walks images applied next rows all left
-record_taken images mappings applied epoch next rows line entry is applies next_is all left w = rw next_is (record_more images mappings applied epoch rows all left entry applies (rw is at w))
+    let good = rw is at w.good in
+    let p = good_first w.before said more good in (
+      ranking,
+      rw (ranking, epoch, counts) (record {
+        before = w.before ++ said ∷ [];
+        rest = w.rest;
+        records = w.records ++ entry ∷ [];
+        done = w.done;
+        are_ranks = w.are_ranks;
+        good = good_rest w.before said more good;
+        stands = applies w.records w.stands;
+        own = own_more images w.records entry p.titled w.own;
+        kernel = kernel_more images w.records entry p.titled w.kernel;
+        epoch_is = epoch_next before.epoch (count_by begins_epoch w.records) (count_by begins_epoch (w.records ++ entry ∷ [])) (cond (begins_epoch entry) 1 0) w.epoch_is (count_push begins_epoch w.records entry);
+        epochs = epoch_least before.epoch (count_by is_part_end w.before) (count_by is_part_end (w.before ++ said ∷ [])) (cond (begins_epoch entry) 1 0) (cond (is_part_end said) 1 0) w.epochs (epoch_ends images entry) (count_push is_part_end w.before said);
+        tallied = w.tallied;
+        whole = w.whole ∙ ap (λ (l : Line). w.done ++ spots_from 0 images w.records (l ∷ left)) is;
+        short = less_left (length w.done) (length left) w.short;
+      }),
+    )
 
 -- before the first line of a trace
-pub begun : (t : Trace) (images : List (List ℕ)) (mappings : LoadMap) (epoch : ℕ) (entries : List (Site × ℕ)) (lines : List Line) → images ≡ t.images.items → lines ≡ t.lines.items → StandsFor mappings [] → epoch ≡ 0 → entries ≡ [] → length lines < 2 ^ 64 → Walks images mappings epoch (rows_in entries) (spots_in (recording_of t) 0) lines
-begun t images mappings epoch entries lines images_is lines_is stands epoch_is entries_is short =
+pub begun : (t : Trace) (walk : Walk) (lines : List Line) → AreRanks t.images.items walk.ranking.now.names.items walk.ranking.now.ranks.items → lines ≡ t.lines.items → StandsFor walk.mappings [] → walk.epoch ≡ 0 → walk.counts.entries ≡ [] → length lines < 2 ^ 64 → IsWalk t.images.items walk (spots_in (recording_of t) 0) lines
+begun t walk lines are_ranks lines_is stands epoch_is entries_is short =
     let header = LongHeader t.cpus t.buckets t.buffer in
     let rest = Ended ∷ map step_said t.schedule.items in
-    rw (images_is, epoch_is, entries_is) (record {
+    rw (epoch_is, entries_is) (record {
       before = header ∷ [];
       rest = rest;
       records = [];
       done = [];
+      are_ranks = are_ranks;
       good = rw lines_is (good_rest [] header (map (line_said t.images.items) t.lines.items ++ rest) t.good);
       stands = stands;
       own = λ pid pc. tt;
       kernel = λ pc. tt;
       epoch_is = refl;
       epochs = omega arith;
-      counted = record { rise = tt; counts = λ spot. refl };
+      tallied = record { ranked = λ k d h. absurd (omega arith); some = λ k d h. absurd (omega arith); totals = λ spot. refl };
       whole = rw lines_is refl;
       short = omega (arith, short);
     })

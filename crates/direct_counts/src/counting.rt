@@ -1,13 +1,18 @@
+//! `plain_counts`: the samples are counted in a table by numbers, an image by the rank of its name, and the table is
+//! sorted once at the end.
 ghost use Rattle.std.specs.Prelude.{◌≡◌, List, IfOk};
-ghost use Rattle.trace_model.specs.Counting.{AreCountsOf, Row, Spot, rows_of, spots_in};
+ghost use Rattle.trace_model.specs.Counting.{AreCountsOf, Row, Spot, spots_in};
+ghost use Rattle.trace_model.specs.Listed.{rows_of};
 ghost use Rattle.trace_model.specs.Traces.{recording_of};
-ghost use Rattle.direct_counts.specs.Sites.{rows_in};
+ghost use Rattle.direct_counts.specs.Ranks.{AreRanks};
+ghost use Rattle.direct_counts.specs.Walks.{TalliesTrace};
 
 use crate::lists::listed;
+use crate::ranks::{Ranking, ranked};
 use crate::sites::Site;
 use crate::walks::Walk;
 use std::alloc::{AllocError, Global};
-use std::collections::BTreeMap;
+use std::collections::HashMap;
 use trace_model::{Counts, Trace};
 
 /// Counts the samples of a trace by place: each adds one where it lies by the records that stand before it, in the epoch
@@ -15,14 +20,21 @@ use trace_model::{Counts, Trace};
 pub fn plain_counts(alloc: Global, trace: &Trace) -> Result<Counts, AllocError>
     ensures { IfOk result (λ counts. AreCountsOf (rows_of counts) (spots_in (recording_of trace.now) 0)) }
 {
-    let counts = counted(alloc, trace)?;
-    listed(alloc, &counts)
+    let ranking = ranked(alloc, &trace.images)?;
+    let counts = counted(alloc, trace, &ranking)?;
+    listed(alloc, &ranking.names, &counts)
 }
 
-fn counted<'a>(alloc: Global, trace: &'a Trace) -> Result<BTreeMap<Site<'a>, u64>, AllocError>
-    ensures { IfOk result (λ counts. AreCountsOf (rows_in counts.entries) (spots_in (recording_of trace.now) 0)) }
+// The samples of a trace in a table.
+fn counted(
+    alloc: Global,
+    trace: &Trace,
+    ranking: &Ranking,
+) -> Result<HashMap<Site, u64>, AllocError>
+    requires { AreRanks trace.now.images.items ranking.now.names.items ranking.now.ranks.items }
+    ensures { IfOk result (λ counts. TalliesTrace ranking.now.names.items counts.entries trace.now) }
 {
-    let mut walk = Walk::new(alloc, &trace.images);
+    let mut walk = Walk::new(alloc, ranking);
     for line in &trace.lines {
         walk.take(line)?;
     }

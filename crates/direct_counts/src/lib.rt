@@ -6,11 +6,9 @@
 mod counting;
 mod listings;
 mod lists;
+mod ranks;
 mod sites;
 mod walks;
 
 pub use counting::{one_listing, plain_counts};
 pub use listings::counts_text;
-
-#[cfg(test)]
-mod tests;

@@ -1,5 +1,6 @@
 ghost use Rattle.std.specs.Prelude.{◌≡◌, ◌++◌, map, IfOk, OnOk};
-ghost use Rattle.trace_model.specs.Counting.{rows_of, rows_text, row_text, known_row, unknown_row};
+ghost use Rattle.trace_model.specs.Listed.{rows_of};
+ghost use Rattle.trace_model.specs.Counting.{rows_text, row_text, known_row, unknown_row};
 ghost use Rattle.direct_counts.specs.Lines.{row_end};
 
 use sample_key::Event;
