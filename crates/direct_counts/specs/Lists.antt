@@ -4,6 +4,7 @@ use Rattle.std.specs.Ordering.{nat_cmp, ordering_then}
 use Rattle.std.specs.List.{All, IsDistinct}
 use Rattle.std.specs.List.Sorted.{IsSorted}
 use Rattle.std.specs.Map.{keys_of}
+use Rattle.std.specs.declared.vec.Vec.{Vec}
 use Rattle.trace_model.specs.declared.count_lists.KnownCount.{KnownCount}
 use Rattle.trace_model.specs.declared.count_lists.UnknownCount.{UnknownCount}
 use Rattle.trace_model.specs.Counting.{AreCountsOf, Row, Spot, known_row, unknown_row}
@@ -52,5 +53,5 @@ abbrev pub rows_with : List KnownCount → List UnknownCount → List Row → Li
 rows_with known unknown more = (map known_row known ++ knowns more) ++ (map unknown_row unknown ++ unknowns more)
 
 -- a row goes from the front of what comes to the end of its list
-abbrev pub MovesRow : List (List ℕ) → Site × ℕ → List KnownCount → List UnknownCount → List KnownCount → List UnknownCount → Type 0
-MovesRow names entry known unknown known_after unknown_after = (more : List Row) → rows_with known unknown (row_shown names entry ∷ more) ≡ rows_with known_after unknown_after more
+abbrev pub MovesRow : {Z : Type 0} → List (List ℕ) → Site × ℕ → Vec KnownCount Z → Vec UnknownCount Z → Vec KnownCount Z → Vec UnknownCount Z → Type 0
+MovesRow names entry known unknown known_after unknown_after = (more : List Row) → rows_with known.items unknown.items (row_shown names entry ∷ more) ≡ rows_with known_after.items unknown_after.items more

@@ -7,7 +7,9 @@ use Rattle.trace_model.specs.declared.notices.Line.{Line}
 use Rattle.trace_model.specs.declared.notices.Record.{Record}
 use Rattle.trace_model.specs.declared.recordings.Trace.{Trace}
 use Rattle.trace_model.specs.Attribution.{own_place, kernel_place}
-use Rattle.trace_model.specs.Counting.{Spot, spots_from, spots_in}
+use Rattle.trace_model.specs.declared.counts.Counts.{Counts}
+use Rattle.trace_model.specs.Counting.{AreCountsOf, Row, Spot, spots_from, spots_in}
+use Rattle.trace_model.specs.Listed.{rows_of}
 use Rattle.trace_model.specs.Parts.{epoch_after}
 use Rattle.trace_model.specs.Recording.{HasImage, are_good, line_said}
 use Rattle.trace_model.specs.Said.{Said, is_part_end}
@@ -50,3 +52,11 @@ Takes before line after = (images : List (List ℕ)) (all : List Spot) (left : L
 -- a table that counts the samples of a trace
 abbrev pub TalliesTrace : List (List ℕ) → List (Site × ℕ) → Trace → Type 0
 TalliesTrace names entries trace = Tallies names entries (spots_in (recording_of trace) 0)
+
+-- counts that list each place at which samples of a trace lie, with the number of samples there, in epochs from 0
+abbrev pub CountsSamples : Trace → Counts → Type 0
+CountsSamples trace counts = AreCountsOf (rows_of counts) (spots_in (recording_of trace) 0)
+
+-- two lists that count the same samples are equal
+abbrev pub HaveOneListing : Type 0
+HaveOneListing = (first second : List Row) (spots : List Spot) → AreCountsOf first spots → AreCountsOf second spots → first ≡ second

@@ -1,11 +1,8 @@
 //! `plain_counts`: the samples are counted in a table by numbers, an image by the rank of its name, and the table is
 //! sorted once at the end.
-ghost use Rattle.std.specs.Prelude.{◌≡◌, List, IfOk};
-ghost use Rattle.trace_model.specs.Counting.{AreCountsOf, Row, Spot, spots_in};
-ghost use Rattle.trace_model.specs.Listed.{rows_of};
-ghost use Rattle.trace_model.specs.Traces.{recording_of};
+ghost use Rattle.std.specs.Prelude.{IfOk};
 ghost use Rattle.direct_counts.specs.Ranks.{AreRanks};
-ghost use Rattle.direct_counts.specs.Walks.{TalliesTrace};
+ghost use Rattle.direct_counts.specs.Walks.{CountsSamples, HaveOneListing, TalliesTrace};
 
 use crate::lists::listed;
 use crate::ranks::{Ranking, ranked};
@@ -18,7 +15,7 @@ use trace_model::{Counts, Trace};
 /// Counts the samples of a trace by place: each adds one where it lies by the records that stand before it, in the epoch
 /// that had begun by then, counted from 0.
 pub fn plain_counts(alloc: Global, trace: &Trace) -> Result<Counts, AllocError>
-    ensures { IfOk result (λ counts. AreCountsOf (rows_of counts) (spots_in (recording_of trace.now) 0)) }
+    ensures { IfOk result (λ counts. CountsSamples trace.now counts) }
 {
     let ranking = ranked(alloc, &trace.images)?;
     let counts = counted(alloc, trace, &ranking)?;
@@ -32,7 +29,7 @@ fn counted(
     ranking: &Ranking,
 ) -> Result<HashMap<Site, u64>, AllocError>
     requires { AreRanks trace.now.images.items ranking.now.names.items ranking.now.ranks.items }
-    ensures { IfOk result (λ counts. TalliesTrace ranking.now.names.items counts.entries trace.now) }
+    ensures { IfOk result (λ made. TalliesTrace ranking.now.names.items made.entries trace.now) }
 {
     let mut walk = Walk::new(alloc, ranking);
     for line in &trace.lines {
@@ -43,5 +40,5 @@ fn counted(
 
 /// Samples have one list of counts: two lists that count the same samples are equal.
 pub fn one_listing()
-    ensures { (first second : List Row) (spots : List Spot) → AreCountsOf first spots → AreCountsOf second spots → first ≡ second }
+    ensures { HaveOneListing }
 {}

@@ -70,7 +70,7 @@ fn add(
     row: &(Site, u64),
 ) -> Result<(), AllocError>
     requires { IsRanked names.now row.now.0 }
-    ensures { OnOk result (MovesRow names.now row.now known.old.items unknown.old.items known.new.items unknown.new.items) }
+    ensures { OnOk result (MovesRow names.now row.now known.old unknown.old known.new unknown.new) }
 {
     let (site, count) = *row;
     match site {

@@ -1,5 +1,5 @@
 -- Ranges of addresses in an ordered list without overlaps: where an address lies in it, and what a cut leaves of it.
-use Rattle.std.specs.Prelude.{◌≡◌, ℕ, ◌-◌, ◌%◌, ◌<◌, ◌≤◌, ◌&&◌, nat_le, nat_lt, min, max, Bool, true, if◌then◌else◌, List, [], ◌∷◌, ◌++◌}
+use Rattle.std.specs.Prelude.{◌≡◌, ℕ, ◌-◌, ◌%◌, ◌<◌, ◌≤◌, ◌&&◌, nat_le, nat_lt, min, max, Bool, true, if◌then◌else◌, List, [], ◌∷◌, ◌++◌, option_to_list}
 use Rattle.std.specs.List.{Contains, prefix_len}
 use Rattle.std.specs.declared.option.Option.{Option}
 use Rattle.std.specs.declared.option.Option.TheVariants.{Some, None}
@@ -54,6 +54,10 @@ rights end (range ∷ ranges) = if nat_lt end range.end then cut_after end range
 -- other ranges in place of all that lies from `base` up to `end`
 abbrev pub exchanged : ℕ → ℕ → List Range → List Range → List Range
 exchanged base end new ranges = lefts base ranges ++ (new ++ rights end ranges)
+
+-- a list after the exchange, with a range or with none
+abbrev pub IsExchanged : ℕ → ℕ → Option Range → List Range → List Range → Type 0
+IsExchanged base end new before after = after ≡ exchanged base end (option_to_list new) before
 
 -- a range put where it covers, and what lies from `base` up to `end` taken away
 abbrev pub with_range : Range → List Range → List Range

@@ -1,7 +1,7 @@
 //! An ordered list of ranges without overlaps: `Ranges::place` finds an address by halving, `Ranges::put` and
 //! `Ranges::cut` cut what a range covers. The ranges rise and stand apart at every moment.
 ghost use Rattle.std.specs.Prelude.{◌≡◌, ℕ, ◌≤◌, ◌<◌, ◌+◌, ◌%◌, min, length, nat_le, List, [], ◌∷◌, ◌++◌, IfOk, OnOk, OnErr, IfSome, option_to_list};
-ghost use Rattle.load_map.specs.Ranges.{IsRange, RangesFrom, place_at, place_in, with_range, without_range, exchanged, left_of, right_of, first_place, ended_by};
+ghost use Rattle.load_map.specs.Ranges.{IsRange, RangesFrom, place_at, place_in, with_range, without_range, IsExchanged, left_of, right_of, first_place, ended_by};
 
 use std::alloc::{AllocError, Global};
 use std::marker::Model;
@@ -133,7 +133,7 @@ fn exchange(
 ) -> Result<(), AllocError>
     requires rising { RangesFrom 0 ranges.old.items }
     requires order { base < end }
-    ensures exchanged { OnOk result (ranges.new.items ≡ exchanged base end (option_to_list new) ranges.old.items) }
+    ensures exchanged { OnOk result (IsExchanged base end new ranges.old.items ranges.new.items) }
     ensures refused { OnErr result (ranges.new.items ≡ ranges.old.items) }
 {
     let first = count_ended(ranges, base);
