@@ -47,8 +47,10 @@ fn names(alloc: Global, texts: &[&[u8]]) -> Result<Vec<Name>, Fail>
 
 // A trace of one processor with the usual sizes and no schedule.
 fn trace_of(alloc: Global, images: &[&[u8]], lines: &[Line]) -> Result<Trace, Fail>
-    requires good { are_good [] (said_in (recording 1 4096 8192 (map (λ image. image.now) images.now) lines.now [])) ≡ true }
-    requires in_order { map (λ image. image.now) images.now ≡ images_in_order (said_in (recording 1 4096 8192 (map (λ image. image.now) images.now) lines.now [])) }
+    requires good { are_good [] (said_in (recording 1 4096 8192 (map
+        (λ image. image.now) images.now) lines.now [])) ≡ true }
+    requires in_order { map (λ image. image.now) images.now ≡ images_in_order (said_in
+        (recording 1 4096 8192 (map (λ image. image.now) images.now) lines.now [])) }
 {
     let images = names(alloc, images)?;
     let lines = Vec::from_slice(alloc, lines)?;

@@ -1,3 +1,4 @@
+//! The text of counts: a line for each row, in their order.
 ghost use Rattle.std.specs.Prelude.{◌≡◌, ◌++◌, map, IfOk, OnOk};
 ghost use Rattle.trace_model.specs.Listed.{rows_of};
 ghost use Rattle.trace_model.specs.Counting.{rows_text, row_text, known_row, unknown_row};

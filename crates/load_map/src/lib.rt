@@ -9,6 +9,3 @@ mod ranges;
 pub use maps::LoadMap;
 pub use ranges::Range;
 pub use trace_model::Place;
-
-#[cfg(test)]
-mod tests;

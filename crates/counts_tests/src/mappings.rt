@@ -3,7 +3,7 @@ ghost use Rattle.std.specs.Prelude.{◌≡◌, true};
 ghost use Rattle.std.specs.List.{list_all};
 ghost use Rattle.trace_model.specs.Recording.{keeps_ranges};
 
-use super::*;
+use load_map::{LoadMap, Place, Range};
 use std::alloc::Global;
 use std::process::Abort;
 use std::test::Fail;
