@@ -5,7 +5,7 @@ use Rattle.std.proofs.lemmas.List.{take-append-drop, drop-drop, drop_at, length-
 use Rattle.var_bytes.specs.Numbers.{number_bytes, IsBytes}
 use Rattle.var_bytes.specs.Forms.{IsIn, between}
 use Rattle.var_bytes.specs.Reading.{number_at, meeting, field_at, ◌>>=◌}
-use Rattle.var_bytes.proofs.NumberLaws.{IsBytes-drop, number_is, number_again}
+use Rattle.var_bytes.proofs.NumberLaws.{IsBytes-drop, number_is, number_narrow, number_again}
 
 -- answers with their types written out
 abbrev pub good : {A : Type 0} → A → Result A ℕ
@@ -130,3 +130,10 @@ unfolding field_at
 field_bad test bytes at k e =
     let m = meeting_err test at (number_at (drop at bytes)) k e in
     (m.0, λ n more is_in front. true_is (sym is_in.meets ∙ m.1 (n, length (number_bytes n)) (ap number_at front ∙ number_again n more is_in.wide)))
+
+-- what is read passes the test, whatever stands there
+pub field_passes : (test : ℕ → Bool) (bytes : List ℕ) (at : ℕ) (x : ℕ × ℕ) → field_at test bytes at ≡ Ok x → IsIn test x.0
+unfolding field_at
+field_passes test bytes at x e =
+    let m = meeting_ok test at (number_at (drop at bytes)) x e in
+    subst (λ (n : ℕ). IsIn test n) m.3 (record { meets = m.2; wide = number_narrow (drop at bytes) m.0 m.1 })

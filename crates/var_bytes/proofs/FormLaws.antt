@@ -3,10 +3,10 @@ use Rattle.std.proofs.Common.{◌≡◌, ◌≢◌, ℕ, suc, ◌+◌, ◌-◌, 
 use Rattle.std.proofs.lemmas.Bool.{eqb-true, eqb-false, eq-eqb}
 use Rattle.std.proofs.lemmas.List.{append_cancel_right, append_assoc, drop_all, length-drop}
 use Rattle.var_bytes.specs.Numbers.{number_bytes, IsBytes}
-use Rattle.var_bytes.specs.Forms.{Form, Done, Field, and_then, repeat, Takes, Spells, IsBadAt}
+use Rattle.var_bytes.specs.Forms.{Form, Done, Field, and_then, repeat, Takes, Spells, Follows, IsBadAt}
 use Rattle.var_bytes.specs.Reading.{field_at, take_form, ended, read_form, ◌>>=◌}
 use Rattle.var_bytes.proofs.NumberLaws.{one_front}
-use Rattle.var_bytes.proofs.FieldLaws.{good, ok_is, bind_ok, bind_err, bind_assoc, cases_result, guard_ok, guard_err, field_takes, field_again, field_bad}
+use Rattle.var_bytes.proofs.FieldLaws.{good, ok_is, bind_ok, bind_err, bind_assoc, cases_result, guard_ok, guard_err, field_takes, field_passes, field_again, field_bad}
 
 -- ---- what is read is told by the bytes
 
@@ -29,6 +29,23 @@ reads_ok {A = A} form bytes value fits e =
     let nothing : drop b.0.1 bytes ≡ [] = drop_all b.0.1 bytes (omega (arith, eqb-true b.0.1 (length bytes) g.0)) in
     let all : Takes form bytes b.0.0 [] = subst (λ (rest : List ℕ). Takes form bytes b.0.0 rest) nothing t.0 in
     subst (λ (v : A). Takes form bytes v []) g.1 all
+
+-- what is read follows from numbers, whatever the bytes
+pub form_follows : {A : Type 0} (form : Form A) (bytes : List ℕ) (at : ℕ) (x : A × ℕ) → take_form form bytes at ≡ Ok x → (numbers : List ℕ) × Follows form numbers x.0 []
+form_follows {A = A} (Done told) bytes at x e =
+    let made : A × ℕ = (told, at) in
+    ([], (ap (λ (y : A × ℕ). y.0) (ok_is made x e), refl))
+form_follows {A = A} (Field test next) bytes at x e =
+    let b = bind_ok (field_at test bytes at) (λ y. take_form (next y.0) bytes y.1) x e in
+    let later = form_follows (next b.0.0) bytes b.0.1 x b.2 in
+    (b.0.0 ∷ later.0, (field_passes test bytes at b.0 b.1, later.1))
+
+pub reads_follow : {A : Type 0} (form : Form A) (bytes : List ℕ) (value : A) → read_form form bytes ≡ Ok value → (numbers : List ℕ) × Follows form numbers value []
+reads_follow {A = A} form bytes value e =
+    let b = bind_ok (take_form form bytes 0) (ended bytes) value e in
+    let g = guard_ok (eqb b.0.1 (length bytes)) b.0.0 value b.0.1 b.2 in
+    let f = form_follows form bytes 0 b.0 b.1 in
+    (f.0, subst (λ (v : A). Follows form f.0 v []) g.1 f.1)
 
 -- ---- what the bytes tell is read
 

@@ -3,3 +3,4 @@ pub mod FieldLaws
 pub mod FormLaws
 pub mod Writing
 pub mod Appending
+pub mod Answering

@@ -139,6 +139,10 @@ number_is bytes x fits e =
     let q = spelled bytes 9 x fits p.0 p.1 in
     record { wide = p.1; front = q.0; within = q.1 }
 
+pub number_narrow : (bytes : List ℕ) (x : ℕ × ℕ) → number_at bytes ≡ Some x → x.0 < 2 ^ 64
+unfolding number_at
+number_narrow bytes x e = (narrow_is (wide_at bytes) x e).1
+
 pub number_none : (bytes : List ℕ) → number_at bytes ≡ None → (n : ℕ) (more : List ℕ) → n < 2 ^ 64 → bytes ≡ number_bytes n ++ more → ⊥
 number_none bytes none n more lt e = none-some (n, length (number_bytes n)) (sym none ∙ ap number_at e ∙ number_again n more lt)
 

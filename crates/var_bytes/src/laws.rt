@@ -1,8 +1,9 @@
 //! Laws of the spellings: each function's contract is a law, and its body is empty.
 
-ghost use Rattle.std.specs.Prelude.{◌≡◌, ◌<◌, ◌^◌, ◌++◌, ◌⊎◌, ◌↔◌, ℕ, List, []};
+ghost use Rattle.std.specs.Prelude.{◌≡◌, ◌<◌, ◌^◌, ◌++◌, ◌⊎◌, ◌↔◌, ℕ, List, [], Ok};
 ghost use Rattle.var_bytes.specs.Numbers.{number_bytes, spell, IsBytes};
 ghost use Rattle.var_bytes.specs.Forms.{Form, Spells, Follows, IsBadAt};
+ghost use Rattle.var_bytes.specs.Reading.{read_form};
 
 /// A number has one spelling, and no number's spelling begins another's.
 pub fn number_spelled_once()
@@ -40,4 +41,12 @@ pub fn exactly_one_answer<A>()
 pub fn spelled_by_numbers<A>()
     ensures { (form : Form A) (bytes : List ℕ) (v : A) →
         Spells form bytes v ↔ ((numbers : List ℕ) × Follows form numbers v [] × (bytes ≡ spell numbers)) }
+{}
+
+/// What is read from left to right follows from numbers, and where the elements are bytes it is what they spell.
+pub fn read_as_spelled<A>()
+    ensures spelled { (form : Form A) (bytes : List ℕ) (v : A) → IsBytes bytes →
+        (read_form form bytes ≡ Ok v ↔ Spells form bytes v) }
+    ensures numbers { (form : Form A) (bytes : List ℕ) (v : A) → read_form form bytes ≡ Ok v →
+        (numbers : List ℕ) × Follows form numbers v [] }
 {}

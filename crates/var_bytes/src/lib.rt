@@ -5,14 +5,16 @@
 //! end. That it has one reading and one first bad place is proved here once for all formats.
 #![tactic(auto)]
 
+mod errors;
 mod fields;
 mod laws;
 mod numbers;
 
+pub use errors::FormError;
 pub use fields::{BadField, field, field_but, put_numbers};
 pub use laws::{
     exactly_one_answer, none_begins_another, number_spelled_once, one_bad_place, one_reading,
-    spelled_by_numbers,
+    read_as_spelled, spelled_by_numbers,
 };
 pub use numbers::{VarBad, put_number, take_number};
 

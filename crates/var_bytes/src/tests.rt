@@ -1,3 +1,5 @@
+//! Numbers and fields with the values of their tables, and the laws at a type.
+
 use super::*;
 use std::test::Fail;
 
@@ -80,4 +82,5 @@ fn laws_hold_at_a_type() {
     one_bad_place::<u8>();
     exactly_one_answer::<u8>();
     spelled_by_numbers::<u8>();
+    read_as_spelled::<u8>();
 }
