@@ -5,10 +5,12 @@
 //! `specs/SegmentForm.antt`); the crates that read and write it stand above this one and pass its types on.
 #![tactic(auto)]
 
+mod limits;
 mod profiles;
 mod segments;
 mod tallies;
 
+pub use limits::{LAST_PART, LAST_POSITION, MOST_PROCESSORS, MOST_RECORDS, MOST_ROW_COUNT};
 pub use profiles::ProfileRow;
 pub use segments::{Drain, RunRecord, RunSegment};
 pub use tallies::TallyRow;

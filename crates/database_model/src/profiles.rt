@@ -1,3 +1,5 @@
+//! A row of a profile.
+
 /// How often one place was counted: a row of a profile, of which there is one for each image and event
 /// (Anderson et al., ACM TOCS 15(4), section 4.3.3).
 #[derive(Clone, Copy, Debug, PartialEq, Eq)]

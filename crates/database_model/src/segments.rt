@@ -1,3 +1,5 @@
+//! A run as it is kept: a drain, a part of a run, and the record of a whole run.
+
 use sample_key::{Batch, Loss};
 use std::marker::Model;
 

@@ -1,3 +1,5 @@
+//! A row of the tally of a run.
+
 use sample_key::Event;
 
 /// What became of the samples of one processor and event.

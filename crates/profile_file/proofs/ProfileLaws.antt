@@ -6,49 +6,18 @@ use Rattle.std.proofs.lemmas.List.Concat.{flat_map-append}
 use Rattle.var_bytes.specs.Numbers.{number_bytes, spell, IsBytes}
 use Rattle.var_bytes.specs.Forms.{Spells, IsBadAt, Follows, fields_after, repeat}
 use Rattle.var_bytes.specs.Reading.{read_form}
-use Rattle.var_bytes.proofs.FieldLaws.{ok_is, not_bad, between_is, is_between}
-use Rattle.var_bytes.proofs.FormLaws.{reads_ok, reads_again, reads_err, not_both, one_place}
+use Rattle.var_bytes.proofs.FieldLaws.{between_is, is_between}
+use Rattle.var_bytes.proofs.FormLaws.{reads_follow}
 use Rattle.var_bytes.proofs.Writing.{parts_of, fields_after-push, EachFollows, follows_repeat, HasFields, repeat_has_fields, one_spelling, spells_fields, takes_spelled}
 use Rattle.database_model.specs.declared.profiles.ProfileRow.{ProfileRow}
 use Rattle.database_model.specs.Ranges.{RowsRiseFrom, AreRows}
 use Rattle.database_model.specs.ProfileForm.{position_of, last_position, least_distance, row_form, next_row, format1, row_fields}
-use Rattle.profile_file.specs.declared.errors.ProfileError.{ProfileError}
-use Rattle.profile_file.specs.declared.errors.ProfileError.TheVariants.{Bad, Memory}
-use Rattle.profile_file.specs.Answers.{Gives, IsRowAt}
+use Rattle.profile_file.specs.Places.{IsRowAt}
 use Rattle.profile_file.proofs.Rows.{last_position-push, least_distance-push, last_small, rows_push, row_above, row_is}
 
--- values with their types written out
-abbrev answer_of : List ProfileRow → Result (List ProfileRow) ProfileError
-answer_of rows = Ok rows
-
-abbrev failure_at : ℕ → Result (List ProfileRow) ProfileError
-failure_at at = Err (Bad at)
-
+-- a row with its type written out
 abbrev row_at : ℕ → ℕ → ProfileRow
 row_at offset count = record { offset = offset; count = count }
-
--- ---- reading
-
-pub is_found : (bytes : List ℕ) (r : Result (List ProfileRow) ProfileError) → IsBytes bytes → Gives (λ p. p) r (read_form format1 bytes) → IfOk r (λ p. Spells format1 bytes p)
-is_found bytes (Ok p) fits given = reads_ok format1 bytes p fits given
-is_found bytes (Err e) fits given = tt
-
-pub is_only : (bytes : List ℕ) (r : Result (List ProfileRow) ProfileError) → Gives (λ p. p) r (read_form format1 bytes) → (rows : List ProfileRow) → Spells format1 bytes rows → (r ≡ Err Memory) ⊎ (r ≡ Ok rows)
-is_only bytes (Ok p) given rows told =
-    let same : p ≡ rows = ok_is p rows (sym given ∙ reads_again format1 bytes rows told) in
-    inr (ap (λ (q : List ProfileRow). answer_of q) same)
-is_only bytes (Err Memory) given rows told = inl refl
-is_only bytes (Err (Bad at)) given rows told = absurd (not_bad rows at (sym (reads_again format1 bytes rows told) ∙ given))
-
-pub is_bad : (bytes : List ℕ) (r : Result (List ProfileRow) ProfileError) → IsBytes bytes → Gives (λ p. p) r (read_form format1 bytes) → (at : ℕ) → r ≡ Err (Bad at) → IsBadAt format1 bytes at
-is_bad bytes r fits given at e = reads_err format1 bytes at fits (subst (λ (s : Result (List ProfileRow) ProfileError). Gives (λ p. p) s (read_form format1 bytes)) e given)
-
-pub is_refused : (bytes : List ℕ) (r : Result (List ProfileRow) ProfileError) → IsBytes bytes → Gives (λ p. p) r (read_form format1 bytes) → (at : ℕ) → IsBadAt format1 bytes at → (r ≡ Err Memory) ⊎ (r ≡ Err (Bad at))
-is_refused bytes (Ok p) fits given at bad = absurd (not_both format1 bytes p at (reads_ok format1 bytes p fits given) bad)
-is_refused bytes (Err Memory) fits given at bad = inl refl
-is_refused bytes (Err (Bad k)) fits given at bad =
-    let same : k ≡ at = one_place format1 bytes k at (reads_err format1 bytes k fits given) bad in
-    inr (ap (λ (j : ℕ). failure_at j) same)
 
 -- ---- writing
 
@@ -162,7 +131,7 @@ rows_told (suc count) front numbers rows rest rise f =
     let near = is.near in
     rows_told count (front ++ p.value ∷ []) p.rest rows rest (rows_push front p.value rise (omega (arith, near)) (row_is (least_distance front) (last_position front) p.value is) (row_above front p.value rise is)) p.second
 
-numbers_told : (numbers : List ℕ) (rows : List ProfileRow) → Follows format1 numbers rows [] → AreRows rows
+pub numbers_told : (numbers : List ℕ) (rows : List ProfileRow) → Follows format1 numbers rows [] → AreRows rows
 unfolding format1
 numbers_told [] rows f = absurd f
 numbers_told (format ∷ []) rows f = absurd f.1
@@ -170,3 +139,7 @@ numbers_told (format ∷ count ∷ numbers) rows f = rows_told count [] numbers 
 
 pub profile_told : (bytes : List ℕ) (rows : List ProfileRow) → Spells format1 bytes rows → AreRows rows
 profile_told bytes rows s = let p = takes_spelled format1 bytes rows [] s in numbers_told p.numbers rows p.follows
+
+-- whatever the bytes, what is read are the rows of a profile
+pub read_told : (bytes : List ℕ) (rows : List ProfileRow) → read_form format1 bytes ≡ Ok rows → AreRows rows
+read_told bytes rows e = let p = reads_follow format1 bytes rows e in numbers_told p.0 rows p.1

@@ -5,7 +5,7 @@ use Rattle.std.specs.List.{fold}
 use Rattle.database_model.specs.declared.profiles.ProfileRow.{ProfileRow}
 use Rattle.database_model.specs.Ranges.{IsRow, RowsRiseFrom, AreRows}
 use Rattle.database_model.specs.ProfileForm.{position_of, last_position, least_distance}
-use Rattle.profile_file.specs.Answers.{IsRowAt}
+use Rattle.profile_file.specs.Places.{IsRowAt}
 
 -- the position of the last of these rows, behind a row at a position
 abbrev last_from : ℕ → List ProfileRow → ℕ

@@ -4,7 +4,7 @@ use Rattle.var_bytes.specs.Forms.{Form}
 use Rattle.var_bytes.specs.Reading.{take_form}
 use Rattle.database_model.specs.declared.profiles.ProfileRow.{ProfileRow}
 use Rattle.database_model.specs.ProfileForm.{row_form, next_row, last_position, least_distance}
-use Rattle.profile_file.specs.Answers.{IsRowAt}
+use Rattle.profile_file.specs.Places.{IsRowAt}
 
 -- the form of the next row, where the position and the least distance are at hand
 pub next_row_is : (rows : List ProfileRow) (least last : ℕ) → least ≡ least_distance rows → last ≡ last_position rows → row_form least last ≡ next_row rows

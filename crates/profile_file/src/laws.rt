@@ -1,8 +1,9 @@
 //! Laws of the profiles' bytes: each function's contract is a law, and its body is empty.
 
-ghost use Rattle.std.specs.Prelude.{◌≡◌, ◌++◌, ℕ, List};
+ghost use Rattle.std.specs.Prelude.{◌≡◌, ◌++◌, ℕ, List, Ok};
 ghost use Rattle.database_model.specs.declared.profiles.ProfileRow.{ProfileRow as Row};
 ghost use Rattle.var_bytes.specs.Forms.{Spells};
+ghost use Rattle.var_bytes.specs.Reading.{read_form};
 ghost use Rattle.database_model.specs.Ranges.{AreRows};
 ghost use Rattle.database_model.specs.ProfileForm.{format1};
 
@@ -22,4 +23,9 @@ pub fn profile_begins_no_other()
 pub fn profiles_have_spellings()
     ensures spelled { (rows : List Row) → AreRows rows → (bytes : List ℕ) × Spells format1 bytes rows }
     ensures told { (bytes : List ℕ) (rows : List Row) → Spells format1 bytes rows → AreRows rows }
+{}
+
+/// What is read in the profiles' format are the rows of a profile, whatever the bytes.
+pub fn read_rows_rise()
+    ensures told { (bytes : List ℕ) (rows : List Row) → read_form format1 bytes ≡ Ok rows → AreRows rows }
 {}

@@ -5,17 +5,16 @@
 //! bad field.
 #![tactic(auto)]
 
-mod errors;
 mod laws;
 mod profiles;
 mod reading;
 mod writing;
 
 pub use database_model::ProfileRow;
-pub use errors::ProfileError;
-pub use laws::{profile_begins_no_other, profile_spelled_once, profiles_have_spellings};
+pub use laws::{profile_begins_no_other, profile_spelled_once, profiles_have_spellings, read_rows_rise};
 pub use profiles::Profile;
 pub use reading::read_profile;
+pub use var_bytes::FormError as ProfileError;
 pub use writing::write_profile;
 
 #[cfg(test)]

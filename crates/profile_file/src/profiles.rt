@@ -1,4 +1,6 @@
-ghost use Rattle.std.specs.Prelude.{◌≡◌, ◌<◌, List, [], ◌∷◌, ◌++◌, All, is_ok, if◌then◌else◌};
+//! A profile: rows by rising offset, which the type keeps.
+
+ghost use Rattle.std.specs.Prelude.{◌≡◌, ◌<◌, List, [], ◌∷◌, ◌++◌, All, is_ok, IfOk, if◌then◌else◌};
 ghost use Rattle.database_model.specs.Ranges.{IsRow, AreRows};
 
 use database_model::ProfileRow;
@@ -32,6 +34,15 @@ impl Profile {
         Profile {
             rows: Vec::new(alloc),
         }
+    }
+
+    /// The profile with no rows, and memory for this many.
+    pub fn with_capacity(alloc: Global, rows: usize) -> Result<Profile, AllocError>
+        ensures { IfOk result (λ p. p ≡ []) }
+    {
+        Ok(Profile {
+            rows: Vec::with_capacity(alloc, rows)?,
+        })
     }
 
     /// Appends a row; after a refusal the profile is as before.

@@ -1,15 +1,17 @@
+//! Reading a profile from bytes: the entry, the rows, one row.
+
 ghost use Rattle.std.specs.Prelude.{◌≡◌, ◌≤◌, ◌-◌, ◌^◌, ◌⊎◌, ℕ, List, [], length, Ok, Err, IfOk, MatchResult};
 ghost use Rattle.database_model.specs.declared.profiles.ProfileRow.{ProfileRow as Row};
 ghost use Rattle.var_bytes.specs.Forms.{Spells, IsBadAt, repeat};
 ghost use Rattle.var_bytes.specs.Reading.{take_form, read_form};
 ghost use Rattle.database_model.specs.ProfileForm.{row_form, next_row, format1};
-ghost use Rattle.profile_file.specs.Answers.{Gives, IsRowAt};
+ghost use Rattle.var_bytes.specs.Answers.{Gives};
+ghost use Rattle.profile_file.specs.Places.{IsRowAt};
 
-use crate::errors::ProfileError;
 use crate::profiles::Profile;
-use database_model::ProfileRow;
+use database_model::{LAST_POSITION, MOST_ROW_COUNT, ProfileRow};
 use std::alloc::Global;
-use var_bytes::{BadField, field};
+use var_bytes::{BadField, FormError as ProfileError, field};
 
 /// Reads a profile in format 1 from all of the bytes.
 pub fn read_profile(alloc: Global, bytes: &[u8]) -> Result<Profile, ProfileError>
@@ -75,8 +77,8 @@ fn row_of(bytes: &[u8], at: usize, least: u64, last: u64) -> Result<(ProfileRow,
         (λ x. take_form (row_form least last) bytes.now at ≡ Ok (x.0, x.1))
         (λ e. take_form (row_form least last) bytes.now at ≡ Err e.at) }
 {
-    let (distance, at) = field(bytes, at, least, (1 << 62) - 1 - last)?;
-    let (count, at) = field(bytes, at, 1, 1 << 48)?;
+    let (distance, at) = field(bytes, at, least, LAST_POSITION - last)?;
+    let (count, at) = field(bytes, at, 1, MOST_ROW_COUNT)?;
     let offset = 4 * (last + distance);
     Ok((ProfileRow { offset, count }, at))
 }

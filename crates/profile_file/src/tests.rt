@@ -1,3 +1,5 @@
+//! The table of profiles and their bytes, and that a profile goes to threads.
+
 use super::*;
 use std::test::Fail;
 
@@ -93,7 +95,7 @@ fn needs_sync<T: Sync>(_value: &T) {}
 
 #[test]
 fn a_profile_is_made_and_goes_to_threads(rt: HostRuntime) -> Result<(), Fail> {
-    let mut profile = Profile::new(rt.alloc());
+    let mut profile = Profile::with_capacity(rt.alloc(), 1)?;
     profile.push(ProfileRow {
         offset: 8,
         count: 3,
@@ -107,5 +109,6 @@ fn a_profile_is_made_and_goes_to_threads(rt: HostRuntime) -> Result<(), Fail> {
     profile_spelled_once();
     profile_begins_no_other();
     profiles_have_spellings();
+    read_rows_rise();
     Ok(())
 }

@@ -1,3 +1,5 @@
+//! Writing a profile as bytes.
+
 ghost use Rattle.std.specs.Prelude.{◌≡◌, ◌++◌, [], IfOk, OnOk};
 ghost use Rattle.var_bytes.specs.Numbers.{spell};
 ghost use Rattle.var_bytes.specs.Forms.{Spells, fields_after};

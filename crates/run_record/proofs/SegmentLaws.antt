@@ -11,63 +11,25 @@ use Rattle.sample_key.specs.Events.{code_of}
 use Rattle.var_bytes.specs.Numbers.{IsBytes}
 use Rattle.var_bytes.specs.Forms.{Form, Done, repeat, Spells, IsBadAt, Follows, fields_after, and_then}
 use Rattle.var_bytes.specs.Reading.{read_form}
-use Rattle.var_bytes.proofs.FieldLaws.{ok_is, not_bad, between_is}
-use Rattle.var_bytes.proofs.FormLaws.{reads_ok, reads_again, reads_err, not_both, one_place}
+use Rattle.var_bytes.proofs.FieldLaws.{between_is}
 use Rattle.var_bytes.proofs.Writing.{parts_of, HasFields, repeat_has_fields, one_spelling, takes_spelled}
 use Rattle.database_model.specs.Runs.{Drained, Segment}
 use Rattle.database_model.specs.Ranges.{IsDrained, IsSegment, LossesRiseFrom, AreLosses, EndsWith}
 use Rattle.database_model.specs.SegmentForm.{event_at, key_at, flagged_entry, drain, loss_form, next_loss, least_index, processor, processors, segment}
-use Rattle.run_record.specs.declared.errors.SegmentError.{SegmentError}
-use Rattle.run_record.specs.declared.errors.SegmentError.TheVariants.{Bad, Memory}
-use Rattle.run_record.specs.Answers.{Gives}
+use Rattle.var_bytes.specs.declared.errors.FormError.{FormError}
+use Rattle.var_bytes.specs.Answers.{Gives}
+use Rattle.var_bytes.proofs.Answering.{is_found}
 use Rattle.run_record.specs.Reading.{segment_at}
 use Rattle.run_record.proofs.Steps.{segment_is}
 use Rattle.run_record.proofs.KeyLaws.{bit_of, code_of-event_at, kind_back, bit_of_last}
 use Rattle.run_record.proofs.LossLaws.{IsAtPlace}
 use Rattle.run_record.proofs.Parts.{entry_fields, loss_fields, head_fields, segment_head}
 
--- values with their types written out
-abbrev answer_of : Segment → Result Segment SegmentError
-answer_of s = Ok s
-
-abbrev failure_at : ℕ → Result Segment SegmentError
-failure_at at = Err (Bad at)
-
 -- ---- reading
 
-by_form : (bytes : List ℕ) (r : Result Segment SegmentError) → Gives (λ s. s) r (segment_at bytes) → Gives (λ s. s) r (read_form segment bytes)
+-- an answer is what the segment's form gives
+pub by_form : (bytes : List ℕ) (r : Result Segment FormError) → Gives (λ s. s) r (segment_at bytes) → Gives (λ s. s) r (read_form segment bytes)
 by_form bytes r given = subst (λ (read : Result Segment ℕ). Gives (λ s. s) r read) (sym (segment_is bytes)) given
-
-found_by_form : (bytes : List ℕ) (r : Result Segment SegmentError) → IsBytes bytes → Gives (λ s. s) r (read_form segment bytes) → IfOk r (λ s. Spells segment bytes s)
-found_by_form bytes (Ok s) fits given = reads_ok segment bytes s fits given
-found_by_form bytes (Err e) fits given = tt
-
-pub is_found : (bytes : List ℕ) (r : Result Segment SegmentError) → IsBytes bytes → Gives (λ s. s) r (segment_at bytes) → IfOk r (λ s. Spells segment bytes s)
-is_found bytes r fits given = found_by_form bytes r fits (by_form bytes r given)
-
-only_by_form : (bytes : List ℕ) (r : Result Segment SegmentError) → Gives (λ s. s) r (read_form segment bytes) → (s : Segment) → Spells segment bytes s → (r ≡ Err Memory) ⊎ (r ≡ Ok s)
-only_by_form bytes (Ok t) given s told =
-    let same : t ≡ s = ok_is t s (sym given ∙ reads_again segment bytes s told) in
-    inr (ap (λ (q : Segment). answer_of q) same)
-only_by_form bytes (Err Memory) given s told = inl refl
-only_by_form bytes (Err (Bad at)) given s told = absurd (not_bad s at (sym (reads_again segment bytes s told) ∙ given))
-
-pub is_only : (bytes : List ℕ) (r : Result Segment SegmentError) → Gives (λ s. s) r (segment_at bytes) → (s : Segment) → Spells segment bytes s → (r ≡ Err Memory) ⊎ (r ≡ Ok s)
-is_only bytes r given = only_by_form bytes r (by_form bytes r given)
-
-pub is_bad : (bytes : List ℕ) (r : Result Segment SegmentError) → IsBytes bytes → Gives (λ s. s) r (segment_at bytes) → (at : ℕ) → r ≡ Err (Bad at) → IsBadAt segment bytes at
-is_bad bytes r fits given at e =
-    reads_err segment bytes at fits (subst (λ (q : Result Segment SegmentError). Gives (λ s. s) q (read_form segment bytes)) e (by_form bytes r given))
-
-refused_by_form : (bytes : List ℕ) (r : Result Segment SegmentError) → IsBytes bytes → Gives (λ s. s) r (read_form segment bytes) → (at : ℕ) → IsBadAt segment bytes at → (r ≡ Err Memory) ⊎ (r ≡ Err (Bad at))
-refused_by_form bytes (Ok s) fits given at bad = absurd (not_both segment bytes s at (reads_ok segment bytes s fits given) bad)
-refused_by_form bytes (Err Memory) fits given at bad = inl refl
-refused_by_form bytes (Err (Bad k)) fits given at bad =
-    let same : k ≡ at = one_place segment bytes k at (reads_err segment bytes k fits given) bad in
-    inr (ap (λ (j : ℕ). failure_at j) same)
-
-pub is_refused : (bytes : List ℕ) (r : Result Segment SegmentError) → IsBytes bytes → Gives (λ s. s) r (segment_at bytes) → (at : ℕ) → IsBadAt segment bytes at → (r ≡ Err Memory) ⊎ (r ≡ Err (Bad at))
-is_refused bytes r fits given = refused_by_form bytes r fits (by_form bytes r given)
 
 -- ---- one spelling: each part has one list of numbers
 
@@ -384,5 +346,5 @@ segment_told_by numbers s rest f =
 pub segment_told : (bytes : List ℕ) (s : Segment) → Spells segment bytes s → IsSegment s
 segment_told bytes s spells = let p = takes_spelled segment bytes s [] spells in segment_told_by p.numbers s [] p.follows
 
-pub is_in_range : (bytes : List ℕ) (r : Result Segment SegmentError) → IsBytes bytes → Gives (λ s. s) r (segment_at bytes) → IfOk r (λ s. IsSegment s)
-is_in_range bytes r fits given = IfOk-weaker r (λ s. Spells segment bytes s) (λ s. IsSegment s) (λ s spells. segment_told bytes s spells) (is_found bytes r fits given)
+pub is_in_range : (bytes : List ℕ) (r : Result Segment FormError) → IsBytes bytes → Gives (λ s. s) r (segment_at bytes) → IfOk r (λ s. IsSegment s)
+is_in_range bytes r fits given = IfOk-weaker r (λ s. Spells segment bytes s) (λ s. IsSegment s) (λ s spells. segment_told bytes s spells) (is_found segment bytes r fits (by_form bytes r given))

@@ -9,13 +9,13 @@ use Rattle.var_bytes.proofs.FieldLaws.{bind_assoc}
 use Rattle.var_bytes.proofs.FormLaws.{take_and_then, repeat_goes_on, repeat_ends, repeat_done}
 use Rattle.sample_key.specs.declared.losses.Loss.{Loss}
 use Rattle.database_model.specs.SegmentForm.{flagged_entry, drain, segment, loss_form, next_loss, least_index}
-use Rattle.run_record.specs.declared.errors.SegmentError.{SegmentError}
-use Rattle.run_record.specs.declared.errors.SegmentError.TheVariants.{Bad, Memory}
-use Rattle.run_record.specs.Answers.{Fails}
+use Rattle.var_bytes.specs.declared.errors.FormError.{FormError}
+use Rattle.var_bytes.specs.declared.errors.FormError.TheVariants.{Bad, Memory}
+use Rattle.var_bytes.specs.Answers.{Fails}
 use Rattle.run_record.specs.Reading.{entries_at, note_at, drain_at, segment_at}
 
 -- an item of a repetition was not read
-pub ends : {A : Type 0} (e : SegmentError) (item : List A → Form A) (count i : ℕ) (front : List A) (bytes : List ℕ) (at : ℕ) (total : Result (List A × ℕ) ℕ) → i < count → Fails e (take_form (item front) bytes at)
+pub ends : {A : Type 0} (e : FormError) (item : List A → Form A) (count i : ℕ) (front : List A) (bytes : List ℕ) (at : ℕ) (total : Result (List A × ℕ) ℕ) → i < count → Fails e (take_form (item front) bytes at)
     → take_form (repeat item (count - i) front) bytes at ≡ total → Fails e total
 ends Memory item count i front bytes at total lt here so_far = tt
 ends (Bad k) item count i front bytes at total lt here so_far = repeat_ends item count i front bytes at k total lt here so_far
@@ -30,7 +30,7 @@ unfolding segment segment_at
 segment_is bytes = simp (bind_assoc, take_and_then)
 
 -- a drain was not read
-pub drain_fails : (e : SegmentError) (bytes : List ℕ) (at : ℕ) → Fails e (drain_at bytes at) → Fails e (take_form drain bytes at)
+pub drain_fails : (e : FormError) (bytes : List ℕ) (at : ℕ) → Fails e (drain_at bytes at) → Fails e (take_form drain bytes at)
 drain_fails Memory bytes at f = tt
 drain_fails (Bad k) bytes at f = drain_is bytes at ∙ f
 

@@ -1,10 +1,12 @@
+//! The tally of a run: the entry, the rows of a processor, one row and its three sums.
+
 ghost use Rattle.std.specs.Prelude.{◌≡◌, ◌≤◌, ◌<◌, ◌+◌, ◌*◌, ◌^◌, ◌++◌, ◌∷◌, [], map, filter, length, sum_by, slice_index_or, IfOk, OnOk, All};
 ghost use Rattle.std.specs.List.{zip};
 ghost use Rattle.database_model.specs.Ranges.{IsDrained, IsRecorded, AreLosses};
 ghost use Rattle.database_model.specs.Tally.{agrees, samples_of as samples_in_entry, drained_of, lost_of, row_of as tally_row, has_samples, processor_rows, tally_of};
 
 use database_model::{Drain, RunRecord, TallyRow};
-use sample_key::{Entry, Event, Loss};
+use sample_key::{Entry, Event, LAST_CPU, Loss};
 use std::alloc::{AllocError, Global};
 
 /// How many samples of each processor and event were attributed, unknown and lost: a row where their sum is above 0,
@@ -14,7 +16,7 @@ pub fn tally(alloc: Global, r: &RunRecord) -> Result<Vec<TallyRow>, AllocError>
     ensures { IfOk result (λ rows. rows.items ≡ tally_of r.now) }
 {
     let mut rows = Vec::new(alloc);
-    for cpu in 0..16 {
+    for cpu in 0..LAST_CPU + 1 {
         push_rows(&mut rows, r, cpu)?;
     }
     Ok(rows)

@@ -6,7 +6,6 @@
 #![tactic(auto)]
 
 mod counting;
-mod errors;
 mod laws;
 mod reading;
 mod reading_losses;
@@ -15,10 +14,7 @@ mod writing_losses;
 
 pub use counting::tally;
 pub use database_model::{Drain, RunRecord, RunSegment, TallyRow};
-pub use errors::SegmentError;
 pub use laws::{segment_begins_no_other, segment_spelled_once, segments_are_in_range};
 pub use reading::read_segment;
+pub use var_bytes::FormError as SegmentError;
 pub use writing::write_segment;
-
-#[cfg(test)]
-mod tests;

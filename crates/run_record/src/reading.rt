@@ -1,18 +1,21 @@
+//! Reading a segment from bytes: the entry, the drains, one drain, its header and its entries.
+
 ghost use Rattle.std.specs.Prelude.{◌≡◌, ◌≤◌, ◌-◌, ◌^◌, ◌⊎◌, ℕ, List, [], length, Ok, Err, IfOk, MatchResult};
 ghost use Rattle.var_bytes.specs.Forms.{Spells, IsBadAt, repeat};
 ghost use Rattle.var_bytes.specs.Reading.{take_form};
 ghost use Rattle.database_model.specs.Runs.{Segment};
 ghost use Rattle.database_model.specs.Ranges.{IsSegment};
 ghost use Rattle.database_model.specs.SegmentForm.{key_at, flagged_entry, drain, segment};
-ghost use Rattle.run_record.specs.Answers.{Gives};
+ghost use Rattle.var_bytes.specs.Answers.{Gives};
 ghost use Rattle.run_record.specs.Reading.{entries_at, note_at, drain_at, segment_at};
 
-use crate::errors::SegmentError;
 use crate::reading_losses::{event_of, processors_of};
-use database_model::{Drain, RunSegment};
-use sample_key::{Batch, Entry, Event, Key, Note};
+use database_model::{
+    Drain, LAST_PART, LAST_POSITION, MOST_PROCESSORS, MOST_RECORDS, RunSegment,
+};
+use sample_key::{Batch, Entry, Event, Key, MOST_SAMPLES, Note};
 use std::alloc::Global;
-use var_bytes::{BadField, field};
+use var_bytes::{BadField, FormError as SegmentError, field};
 
 /// Reads a segment from all of the bytes.
 pub fn read_segment(alloc: Global, bytes: &[u8]) -> Result<RunSegment, SegmentError>
@@ -37,7 +40,7 @@ fn whole_segment(alloc: Global, bytes: &[u8]) -> Result<RunSegment, SegmentError
 {
     let (_format, at) = field(bytes, 0, 1, 1)?;
     let (number, at) = field(bytes, at, 1, (1 << 32) - 1)?;
-    let (part, at) = field(bytes, at, 0, 1024)?;
+    let (part, at) = field(bytes, at, 0, LAST_PART)?;
     let (last, at) = field(bytes, at, 0, 1)?;
     let (first_epoch, at) = field(bytes, at, 0, (1 << 32) - 1)?;
     let (count, at) = field(bytes, at, 0, u64::MAX)?;
@@ -83,10 +86,10 @@ fn drain_of(alloc: Global, bytes: &[u8], at: usize) -> Result<(Drain, usize), Se
     ensures within { IfOk result (λ x. x.1 ≤ length bytes.now) }
     ensures value { Gives (λ x. (x.0, x.1)) result (drain_at bytes.now at) }
 {
-    let (position, at) = field(bytes, at, 0, 65_536)?;
+    let (position, at) = field(bytes, at, 0, MOST_RECORDS)?;
     let (epoch, at) = field(bytes, at, 0, (1 << 32) - 1)?;
     let (note, at) = note_of(bytes, at)?;
-    let (count, at) = field(bytes, at, 0, 2_000_000)?;
+    let (count, at) = field(bytes, at, 0, MOST_SAMPLES)?;
     let (entries, known, at) = entries_of(alloc, bytes, at, count)?;
     let drain = Drain {
         at: position as u32,
@@ -105,10 +108,10 @@ fn note_of(bytes: &[u8], at: usize) -> Result<(Note, usize), BadField>
         (λ x. note_at bytes.now at ≡ Ok (x.0, x.1))
         (λ e. note_at bytes.now at ≡ Err e.at) }
 {
-    let (cpu, at) = field(bytes, at, 0, 15)?;
+    let (cpu, at) = field(bytes, at, 0, MOST_PROCESSORS - 1)?;
     let (cell, at) = field(bytes, at, 0, 2)?;
     let (number, at) = field(bytes, at, 1, u64::MAX)?;
-    let (upto, at) = field(bytes, at, 0, 2_000_000)?;
+    let (upto, at) = field(bytes, at, 0, MOST_SAMPLES)?;
     let (answers, at) = field(bytes, at, 0, u64::MAX)?;
     let (sent0, at) = field(bytes, at, 0, u64::MAX)?;
     let (sent1, at) = field(bytes, at, 0, u64::MAX)?;
@@ -156,7 +159,7 @@ fn entry_of(bytes: &[u8], at: usize) -> Result<(Entry, bool, usize), BadField>
         (λ e. take_form flagged_entry bytes.now at ≡ Err e.at) }
 {
     let (pid, at) = field(bytes, at, 0, (1 << 32) - 1)?;
-    let (position, at) = field(bytes, at, 0, (1 << 62) - 1)?;
+    let (position, at) = field(bytes, at, 0, LAST_POSITION)?;
     let (kind, at) = field(bytes, at, 0, 7)?;
     let (count, at) = field(bytes, at, 1, 65_535)?;
     let key = key_of(pid, position, event_of(kind / 2));

@@ -1,13 +1,15 @@
+//! Reading the losses of a segment, one list for each processor, in the last part alone.
+
 ghost use Rattle.std.specs.Prelude.{◌≡◌, ◌≤◌, ◌+◌, List, [], map, length, Ok, Err, IfOk, MatchResult};
 ghost use Rattle.var_bytes.specs.Forms.{repeat};
 ghost use Rattle.var_bytes.specs.Reading.{take_form};
 ghost use Rattle.database_model.specs.SegmentForm.{event_at, loss_form, next_loss, processor, processors};
-ghost use Rattle.run_record.specs.Answers.{Gives};
+ghost use Rattle.var_bytes.specs.Answers.{Gives};
 
-use crate::errors::SegmentError;
-use sample_key::{Event, Loss};
+use database_model::MOST_PROCESSORS;
+use sample_key::{Event, Loss, MOST_SAMPLES};
 use std::alloc::Global;
-use var_bytes::{BadField, field};
+use var_bytes::{BadField, FormError as SegmentError, field};
 
 // the losses of all processors, in the last part alone
 #[tactic(auto, unfolding(database_model::specs::SegmentForm::processors))]
@@ -25,7 +27,7 @@ pub(crate) fn processors_of(
     if !last {
         return Ok((Vec::new(alloc), at));
     }
-    let (count, at) = field(bytes, at, 1, 16)?;
+    let (count, at) = field(bytes, at, 1, MOST_PROCESSORS)?;
     lists_of(alloc, bytes, at, count)
 }
 
@@ -56,7 +58,7 @@ fn processor_of(alloc: Global, bytes: &[u8], at: usize) -> Result<(Vec<Loss>, us
     ensures within { IfOk result (λ x. x.1 ≤ length bytes.now) }
     ensures value { Gives (λ x. (x.0.items, x.1)) result (take_form processor bytes.now at) }
 {
-    let (count, at) = field(bytes, at, 0, 2_000_000)?;
+    let (count, at) = field(bytes, at, 0, MOST_SAMPLES)?;
     losses_of(alloc, bytes, at, count)
 }
 
@@ -91,7 +93,7 @@ fn loss_of(bytes: &[u8], at: usize, least: u64) -> Result<(Loss, usize), BadFiel
         (λ x. take_form (loss_form least) bytes.now at ≡ Ok (x.0, x.1))
         (λ e. take_form (loss_form least) bytes.now at ≡ Err e.at) }
 {
-    let (index, at) = field(bytes, at, least, 1_999_999)?;
+    let (index, at) = field(bytes, at, least, MOST_SAMPLES - 1)?;
     let (code, at) = field(bytes, at, 0, 3)?;
     let (word0, at) = field(bytes, at, 0, u64::MAX)?;
     let (word1, at) = field(bytes, at, 0, u64::MAX)?;

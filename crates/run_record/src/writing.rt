@@ -1,3 +1,5 @@
+//! Writing a segment as bytes: the entry, the drains, one drain and its entries.
+
 ghost use Rattle.std.specs.Prelude.{◌≡◌, ◌-◌, ◌/◌, ◌^◌, ◌<◌, ◌≤◌, [], length, IfOk, OnOk, All, if◌then◌else◌};
 ghost use Rattle.std.specs.List.{zip};
 ghost use Rattle.var_bytes.specs.Forms.{Spells, Appends, repeat};

@@ -1,3 +1,5 @@
+//! Writing the losses of a segment, in the last part alone.
+
 ghost use Rattle.std.specs.Prelude.{◌≡◌, [], map, length, OnOk, All};
 ghost use Rattle.var_bytes.specs.Forms.{Appends, repeat};
 ghost use Rattle.database_model.specs.Ranges.{AreLosses, EndsWith};
