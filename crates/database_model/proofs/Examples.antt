@@ -1,5 +1,5 @@
 -- The formats at worked examples, by computation alone.
-use Rattle.std.proofs.Common.{◌≡◌, ℕ, ◌^◌, true, false, List, [], ◌∷◌, Result, Ok, Err, refl}
+use Rattle.std.proofs.Common.{◌≡◌, ◌^◌, true, false, [], ◌∷◌, Ok, Err, refl}
 use Rattle.sample_key.specs.declared.events.Event.TheVariants.{Cycles, Imiss}
 use Rattle.sample_key.specs.Counted.{entry}
 use Rattle.var_bytes.specs.Reading.{read_form, field_at, number_at, wide_at}

@@ -3,3 +3,6 @@ pub mod Database
 pub mod Heads
 pub mod Updates
 pub mod Standing
+pub mod Generations
+pub mod Limits
+pub mod Faults

@@ -1,6 +1,7 @@
 -- The rows of a head: where each stands in their order, and the file that it names.
-use Rattle.std.specs.Prelude.{ℕ, ◌==◌, ◌&&◌, ◌||◌, Bool, true, false, nat_lt, nat_le, if◌then◌else◌, List, [], ◌∷◌, find}
+use Rattle.std.specs.Prelude.{ℕ, ◌==◌, ◌&&◌, ◌||◌, Bool, true, nat_lt, nat_le, if◌then◌else◌, List, [], ◌∷◌, find}
 use Rattle.std.specs.declared.option.Option.{Option}
+use Rattle.store_io.specs.declared.file_refs.FileRef.{FileRef}
 use Rattle.store_io.specs.declared.file_refs.FileRef.TheVariants.{Known, Unknown}
 use Rattle.store_io.specs.FileNames.{file_name}
 use Rattle.database_state.specs.declared.rows.KnownRow.{KnownRow}
@@ -53,13 +54,21 @@ known_row rows epoch image event = find (known_same (known_place epoch image eve
 abbrev pub unknown_row : List UnknownRow → ℕ → ℕ → Option UnknownRow
 unknown_row rows epoch event = find (unknown_same (unknown_place epoch event)) rows
 
+-- a row's file
+abbrev pub known_ref : KnownRow → FileRef
+known_ref r = Known r.epoch r.image r.event r.g
+
+-- an unknown row's file
+abbrev pub unknown_ref : UnknownRow → FileRef
+unknown_ref r = Unknown r.epoch r.event r.g
+
 -- the name of a row's file
 abbrev pub known_file : KnownRow → List ℕ
-known_file r = file_name (Known r.epoch r.image r.event r.g)
+known_file r = file_name (known_ref r)
 
 -- the name of an unknown row's file
 abbrev pub unknown_file : UnknownRow → List ℕ
-unknown_file r = file_name (Unknown r.epoch r.event r.g)
+unknown_file r = file_name (unknown_ref r)
 
 -- a row of a head with this last epoch, this many images and this generation
 abbrev pub is_known_row : ℕ → ℕ → ℕ → KnownRow → Bool

@@ -1,9 +1,10 @@
 -- Which files stand for which database.
-use Rattle.std.specs.Prelude.{◌≡◌, ℕ, zero, suc, ◌+◌, ◌<◌, ◌≤◌, List, [], ◌∷◌, ◌++◌, codes, None, Some, Ok, Err, IsSome}
+use Rattle.std.specs.Prelude.{◌≡◌, ℕ, zero, suc, ◌<◌, ◌≤◌, List, [], ◌∷◌, ◌++◌, codes, None, Some, Ok, Err, IsSome}
 use Rattle.std.specs.declared.option.Option.{Option}
 use Rattle.std.specs.declared.result.Result.{Result}
 use Rattle.std.specs.Fmt.{decimal}
 use Rattle.store_io.specs.Files.{Files}
+use Rattle.store_io.specs.declared.file_refs.FileRef.{FileRef}
 use Rattle.store_io.specs.declared.file_refs.FileRef.TheVariants.{Head, Segment}
 use Rattle.store_io.specs.FileNames.{file_name}
 use Rattle.image_catalog.specs.Images.{place_of}
@@ -15,7 +16,7 @@ use Rattle.database_model.specs.SegmentForm.{segment}
 use Rattle.database_model.specs.Runs as runs
 use Rattle.database_state.specs.declared.rows.KnownRow.{KnownRow}
 use Rattle.database_state.specs.declared.rows.UnknownRow.{UnknownRow}
-use Rattle.database_state.specs.Rows.{known_row, unknown_row, known_file, unknown_file}
+use Rattle.database_state.specs.Rows.{known_row, unknown_row, known_ref, unknown_ref}
 use Rattle.database_state.specs.Database.{Database}
 use Rattle.database_state.specs.Heads as heads
 use Rattle.database_state.specs.Updates.{at_image}
@@ -41,14 +42,17 @@ value_in form None = None
 value_in form (Some bytes) = told (read_form form bytes)
 
 -- what the file of a row tells; no rows where there is no row
-abbrev pub known_at : Files → Option KnownRow → Option (List ProfileRow)
-known_at files None = Some []
-known_at files (Some r) = value_in format1 (files (known_file r))
+abbrev pub profile_at : {R : Type 0} → (R → FileRef) → Files → Option R → Option (List ProfileRow)
+profile_at file files None = Some []
+profile_at file files (Some r) = value_in format1 (files (file_name (file r)))
 
--- what the file of an unknown row tells; no rows where there is no row
+-- what the file of a profile's row tells
+abbrev pub known_at : Files → Option KnownRow → Option (List ProfileRow)
+known_at files row = profile_at known_ref files row
+
+-- what the file of an unknown profile's row tells
 abbrev pub unknown_at : Files → Option UnknownRow → Option (List ProfileRow)
-unknown_at files None = Some []
-unknown_at files (Some r) = value_in format1 (files (unknown_file r))
+unknown_at files row = profile_at unknown_ref files row
 
 -- the segments of the generations up to this one
 abbrev pub segments_to : ℕ → Files → List (Option runs.Segment)
@@ -85,3 +89,7 @@ StandsFor files db = (h : heads.Head) × HaveHead files h × (database_of h file
 -- all files that a crash may leave have this head, and say this under it
 abbrev pub CrashesSay : (Files → Type 0) → heads.Head → Database → Type 0
 CrashesSay outcomes h db = (c : Files) → outcomes c → HaveHead c h × (database_of h c ≡ db)
+
+-- where the files are told they have this head, and say this under it
+abbrev pub SaysWhereTold : Option Files → heads.Head → Database → Type 0
+SaysWhereTold files h db = (f : Files) → files ≡ Some f → HaveHead f h × (database_of h f ≡ db)

@@ -2,15 +2,16 @@
 use Rattle.std.specs.Prelude.{◌≡◌, ℕ, ◌+◌, ◌⊎◌, Bool, true, ◌&&◌, not, nat_le, nat_lt, is_some, List, [], ◌∷◌, ◌++◌, map, length, Some, None, find, fold, count_by}
 use Rattle.std.specs.declared.option.Option.{Option}
 use Rattle.std.specs.List.{list_all}
+use Rattle.store_io.specs.declared.file_refs.FileRef.{FileRef}
 use Rattle.image_catalog.specs.Images.{place_of, AreImages}
 use Rattle.database_model.specs.declared.profiles.ProfileRow.{ProfileRow}
 use Rattle.database_model.specs.Runs.{Segment}
 use Rattle.database_model.specs.Ranges.{IsSegment}
 use Rattle.database_state.specs.declared.rows.KnownRow.{KnownRow}
 use Rattle.database_state.specs.declared.rows.UnknownRow.{UnknownRow}
-use Rattle.database_state.specs.Rows.{known_before, known_same, unknown_before, unknown_same, is_rising, with_row, known_place, unknown_place, known_row, unknown_row}
+use Rattle.database_state.specs.Rows.{known_before, known_same, unknown_before, unknown_same, is_rising, with_row, known_place, unknown_place, known_row, unknown_row, known_ref, unknown_ref}
 use Rattle.database_state.specs.Database.{Database}
-use Rattle.database_state.specs.Heads.{Head, row_count}
+use Rattle.database_state.specs.Heads.{Head}
 
 -- a changed profile, whole
 pub record KnownUpdate : Type 0 where
@@ -40,6 +41,14 @@ known_row_of g u = record { epoch = u.epoch; image = u.image; event = u.event; g
 -- the row of a changed unknown profile that is written at generation g
 abbrev pub unknown_row_of : ℕ → UnknownUpdate → UnknownRow
 unknown_row_of g u = record { epoch = u.epoch; event = u.event; g = g }
+
+-- the file of a changed profile that is written at generation g
+abbrev pub known_ref_of : ℕ → KnownUpdate → FileRef
+known_ref_of g u = known_ref (known_row_of g u)
+
+-- the file of a changed unknown profile that is written at generation g
+abbrev pub unknown_ref_of : ℕ → UnknownUpdate → FileRef
+unknown_ref_of g u = unknown_ref (unknown_row_of g u)
 
 -- the changed profile of a place
 abbrev pub known_in : List KnownUpdate → ℕ → ℕ → ℕ → Option KnownUpdate

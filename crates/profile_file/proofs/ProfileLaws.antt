@@ -1,10 +1,9 @@
 -- Profiles: what readers answer, what writers write, and one spelling.
-use Rattle.std.proofs.Common.{◌≡◌, ℕ, zero, suc, ◌+◌, ◌*◌, ◌-◌, ◌/◌, ◌%◌, ◌^◌, ◌<◌, ◌≤◌, List, [], ◌∷◌, ◌++◌, length, get_or, take, Result, Ok, Err, ◌⊎◌, inl, inr, refl, sym, ap, subst, ◌∙◌, append_assoc, arith}
-use Rattle.std.specs.Prelude.{IfOk}
+use Rattle.std.proofs.Common.{◌≡◌, ℕ, zero, suc, ◌+◌, ◌*◌, ◌-◌, ◌/◌, ◌%◌, ◌^◌, ◌<◌, ◌≤◌, List, [], ◌∷◌, ◌++◌, length, get_or, take, Ok, refl, sym, ap, subst, ◌∙◌, append_assoc, arith}
 use Rattle.std.proofs.lemmas.List.{append-nil, take_more}
 use Rattle.std.proofs.lemmas.List.Concat.{flat_map-append}
-use Rattle.var_bytes.specs.Numbers.{number_bytes, spell, IsBytes}
-use Rattle.var_bytes.specs.Forms.{Spells, IsBadAt, Follows, fields_after, repeat}
+use Rattle.var_bytes.specs.Numbers.{number_bytes, spell}
+use Rattle.var_bytes.specs.Forms.{Spells, Follows, fields_after, repeat}
 use Rattle.var_bytes.specs.Reading.{read_form}
 use Rattle.var_bytes.proofs.FieldLaws.{between_is, is_between}
 use Rattle.var_bytes.proofs.FormLaws.{reads_follow}

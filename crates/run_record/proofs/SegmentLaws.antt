@@ -1,5 +1,5 @@
 -- Segments: what the reader answers, and one spelling.
-use Rattle.std.proofs.Common.{◌≡◌, ℕ, zero, suc, ◌+◌, ◌*◌, ◌-◌, ◌/◌, ◌%◌, ◌^◌, ◌<◌, ◌≤◌, Bool, true, false, List, [], ◌∷◌, ◌++◌, length, Result, Ok, Err, ◌⊎◌, inl, inr, refl, sym, ap, subst, ◌∙◌, append_assoc, arith}
+use Rattle.std.proofs.Common.{◌≡◌, ℕ, zero, suc, ◌+◌, ◌*◌, ◌-◌, ◌/◌, ◌%◌, ◌^◌, ◌<◌, ◌≤◌, Bool, true, false, List, [], ◌∷◌, ◌++◌, length, Result, refl, sym, ap, subst, ◌∙◌, append_assoc, arith}
 use Rattle.std.specs.Prelude.{IfOk, All, map, ◌==◌}
 use Rattle.std.specs.List.{zip, fold}
 use Rattle.std.proofs.lemmas.List.{length-map, length_push}
@@ -9,7 +9,7 @@ use Rattle.sample_key.specs.declared.losses.Loss.{Loss}
 use Rattle.sample_key.specs.Counted.{Counted, entry}
 use Rattle.sample_key.specs.Events.{code_of}
 use Rattle.var_bytes.specs.Numbers.{IsBytes}
-use Rattle.var_bytes.specs.Forms.{Form, Done, repeat, Spells, IsBadAt, Follows, fields_after, and_then}
+use Rattle.var_bytes.specs.Forms.{Form, Done, repeat, Spells, Follows, fields_after, and_then}
 use Rattle.var_bytes.specs.Reading.{read_form}
 use Rattle.var_bytes.proofs.FieldLaws.{between_is}
 use Rattle.var_bytes.proofs.Writing.{parts_of, HasFields, repeat_has_fields, one_spelling, takes_spelled}

@@ -7,20 +7,7 @@ use Rattle.store_io.specs.declared.file_refs.FileRef.{FileRef}
 use Rattle.store_io.specs.declared.file_refs.FileRef.TheVariants.{Head, Known, Unknown, Segment}
 use Rattle.store_io.specs.FileNames.{file_name}
 use Rattle.database_state.specs.Standing.{seal_file}
-
--- the numbers of a file have spellings of their own
-abbrev pub FileFits : FileRef → Type 0
-FileFits (Head g) = g < 2 ^ 64
-FileFits (Known epoch image event g) = (epoch < 2 ^ 64) × (image < 2 ^ 64) × (event < 2 ^ 64) × (g < 2 ^ 64)
-FileFits (Unknown epoch event g) = (epoch < 2 ^ 64) × (event < 2 ^ 64) × (g < 2 ^ 64)
-FileFits (Segment g) = g < 2 ^ 64
-
--- the generation at which a file was written
-abbrev pub generation_of : FileRef → ℕ
-generation_of (Head g) = g
-generation_of (Known epoch image event g) = g
-generation_of (Unknown epoch event g) = g
-generation_of (Segment g) = g
+use Rattle.database_state.specs.Generations.{FileFits}
 
 pub differ : (a b : ℕ) → a ≢ b → (x y : List ℕ) → a ∷ x ≡ b ∷ y → ⊥
 differ a b apart x y e = apart (cc)
