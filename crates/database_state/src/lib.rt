@@ -14,5 +14,5 @@ mod rows;
 pub use changes::{Change, Changed, KnownFile, UnknownFile};
 pub use faults::{DbError, DbFault, FullWhat};
 pub use laws::{file_names_are_apart, told_profiles_rise};
-pub use limits::{MOST_ROWS, NEWEST_GENERATION};
+pub use limits::{LAST_GENERATION, MOST_ROWS};
 pub use rows::{KnownRow, Placed, UnknownRow, is_rising};

@@ -1,7 +1,7 @@
 //! The limits of a head.
 
 /// The most rows of a head: profiles, unknown profiles and segments.
-pub const MOST_ROWS: u64 = 65_536;
+pub const MOST_ROWS: u128 = 65_536;
 
 /// The greatest generation.
-pub const NEWEST_GENERATION: u64 = 65_536;
+pub const LAST_GENERATION: u64 = 65_536;

@@ -19,10 +19,11 @@ use Rattle.database_state.specs.Standing.{seal_file, HaveHead, database_of, Cras
 use Rattle.epoch_store.specs.Puts.{Put, puts, PutAll, PutSome}
 use Rattle.epoch_store.specs.Commits.{AreWritesOf, InCommit, AfterCommit, FilesChanged, BeforeOrAfter}
 use Rattle.epoch_store.proofs.Order.{cases}
-use Rattle.epoch_store.proofs.Names.{no_seal, one_seal}
+use Rattle.database_state.specs.Generations.{IsComing, OthersStay}
+use Rattle.database_state.proofs.Names.{no_seal, one_seal}
 use Rattle.epoch_store.proofs.NextHead.{next_is_head, rows_after}
 use Rattle.epoch_store.proofs.Phases.{chain, told_then}
-use Rattle.epoch_store.proofs.Stays.{with_same, with_other, IsComing, Agree, held, puts_agree, some_agree, seal_held, same_head, same_said}
+use Rattle.epoch_store.proofs.Stays.{with_same, with_other, Agree, held, puts_agree, some_agree, seal_held, same_head, same_said}
 use Rattle.epoch_store.proofs.Sealed.{GoesOn, goes_bounded, goes_most, all_coming, all_stand, said_after}
 
 -- the files are as they were, but for files of the coming generation

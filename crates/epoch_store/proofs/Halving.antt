@@ -6,7 +6,7 @@ use Rattle.std.specs.List.Sorted.{IsPartitionedBy}
 use Rattle.database_state.specs.Rows.{is_before_first, is_rising, with_row}
 use Rattle.epoch_store.specs.Orders.{IsOrder}
 use Rattle.epoch_store.proofs.Order.{and_first, and_second, none_before}
-use Rattle.epoch_store.proofs.Inserting.{rest_at, found_here, found_later, found_nowhere, goes_before, replaces, goes_behind, goes_last}
+use Rattle.epoch_store.proofs.Inserting.{rest_at, found_here, found_later, found_nowhere}
 
 clash : (b : Bool) → b ≡ true → b ≡ false → ⊥
 clash b holds fails = let e : true ≡ false = sym holds ∙ fails in cc
@@ -44,7 +44,7 @@ halves {R} {before} {same} order p (x ∷ rows) rising =
     front_half order p x rows first others (halves order p rows others)
 
 -- a row before a place is not of it, and the place is not before the row
-not_of : {R : Type 0} {before same : R → R → Bool} → IsOrder before same → (x p : R) → before x p ≡ true → (before p x ≡ false) × (same p x ≡ false)
+pub not_of : {R : Type 0} {before same : R → R → Bool} → IsOrder before same → (x p : R) → before x p ≡ true → (before p x ≡ false) × (same p x ≡ false)
 not_of {R} {before} {same} order x p holds =
     (false_from (before p x) (λ back. clash (same x x) (order.own x) (order.apart x x (order.beyond x p x holds back))), order.symm p x ∙ order.apart x p holds)
 
@@ -54,17 +54,7 @@ below P rows i all = λ k d low high. all k d low (omega arith)
 one_up : (n : ℕ) → n + 1 ≡ suc n
 one_up n = omega arith
 
--- a new row goes behind all rows before it
-pub walked : {R : Type 0} {before same : R → R → Bool} → IsOrder before same → (rows : List R) (r : R) (i : ℕ) → i ≤ length rows → AllWithin (λ y. before y r ≡ true) rows 0 i → with_row before same rows r ≡ take i rows ++ with_row before same (drop i rows) r
-walked order rows r zero within all = refl
-walked {R} {before} {same} order rows r (suc i) within all =
-    let x = get_or rows i r in
-    let is : x ≡ get_or rows i x = get_or_default rows i r x (omega arith) in
-    let not = not_of order x r (all i r (omega arith) (omega arith)) in
-    subst (λ n. with_row before same rows r ≡ take n rows ++ with_row before same (drop n rows) r) (one_up i)
-    (goes_behind before same rows r x i (omega arith) is (walked order rows r i (omega arith) (below (λ y. before y r ≡ true) rows i all)) not.0 not.1)
-
--- and the row of a place is none of them
+-- the row of a place is none of the rows before it
 pub sought : {R : Type 0} {before same : R → R → Bool} → IsOrder before same → (rows : List R) (p : R) (i : ℕ) → i ≤ length rows → AllWithin (λ y. before y p ≡ true) rows 0 i → find (same p) rows ≡ find (same p) (drop i rows)
 sought order rows p zero within all = refl
 sought {R} {before} {same} order rows p (suc i) within all =
@@ -95,16 +85,3 @@ found {R} {before} {same} order rows p x i all within is holds = found_here (sam
 
 pub past_all : {R : Type 0} {before same : R → R → Bool} → IsOrder before same → (rows : List R) (p : R) (i : ℕ) → AllWithin (λ y. before y p ≡ true) rows 0 i → i ≤ length rows → length rows ≤ i → find (same p) rows ≡ None
 past_all {R} {before} {same} order rows p i all within past = found_nowhere (same p) rows i past (sought order rows p i within all)
-
--- where a new row goes
-pub inserted : {R : Type 0} {before same : R → R → Bool} → IsOrder before same → (rows : List R) (r x : R) (i : ℕ) → AllWithin (λ y. before y r ≡ true) rows 0 i → AllWithin (λ y. before y r ≡ false) rows i (length rows) → i < length rows → x ≡ get_or rows i x → same r x ≡ false → insert rows i r ≡ with_row before same rows r
-inserted {R} {before} {same} order rows r x i all none within is apart =
-    let behind : before x r ≡ false = subst (λ y. before y r ≡ false) (sym is) (none i x (omega arith) within) in
-    goes_before before same rows r x i within is (walked order rows r i (omega arith) all) (order.other x r behind (order.symm x r ∙ apart))
-
-pub replaced : {R : Type 0} {before same : R → R → Bool} → IsOrder before same → (rows : List R) (r x : R) (i : ℕ) → AllWithin (λ y. before y r ≡ true) rows 0 i → i < length rows → x ≡ get_or rows i x → same r x ≡ true → set rows i r ≡ with_row before same rows r
-replaced {R} {before} {same} order rows r x i all within is holds =
-    replaces before same rows r x i within is (walked order rows r i (omega arith) all) (false_from (before r x) (λ ahead. clash (same r x) holds (order.apart r x ahead))) holds
-
-pub appended : {R : Type 0} {before same : R → R → Bool} → IsOrder before same → (rows : List R) (r : R) (i : ℕ) → AllWithin (λ y. before y r ≡ true) rows 0 i → i ≤ length rows → length rows ≤ i → rows ++ r ∷ [] ≡ with_row before same rows r
-appended {R} {before} {same} order rows r i all within past = sym (goes_last before same rows r i past (walked order rows r i within all))

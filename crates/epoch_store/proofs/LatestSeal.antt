@@ -10,8 +10,8 @@ use Rattle.store_io.specs.Files.{Files}
 use Rattle.store_io.specs.Listing.{is_listed, Lists}
 use Rattle.database_state.specs.Heads.{Head, IsHead, head_text, empty_head}
 use Rattle.database_state.specs.Standing.{seal_file, head_file, IsLatest, HaveHead}
-use Rattle.epoch_store.specs.declared.faults.DbFault.{DbFault}
-use Rattle.epoch_store.specs.declared.faults.DbFault.TheVariants.{StoreFault, Bad, Full, Memory}
+use Rattle.database_state.specs.declared.faults.DbFault.{DbFault}
+use Rattle.database_state.specs.declared.faults.DbFault.TheVariants.{StoreFault, Bad, Full, Memory}
 use Rattle.epoch_store.specs.Reading.{IsRefusal, IsHeadless}
 use Rattle.epoch_store.specs.Seals.{generation_in, seal_number, later, greatest_seal}
 use Rattle.epoch_store.proofs.Order.{and_first, and_second, both, cases}

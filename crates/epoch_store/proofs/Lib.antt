@@ -5,7 +5,8 @@ pub mod Images
 pub mod Inserting
 pub mod LatestSeal
 pub mod Lists
-pub mod Names
+pub mod OneHead
+pub mod Merging
 pub mod NextHead
 pub mod Order
 pub mod Parts
@@ -15,4 +16,5 @@ pub mod SealNames
 pub mod Sealed
 pub mod Stays
 pub mod Values
+pub mod Within
 pub mod Written

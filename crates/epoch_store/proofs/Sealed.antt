@@ -22,12 +22,13 @@ use Rattle.epoch_store.specs.Puts.{Put, put, puts}
 use Rattle.epoch_store.specs.Commits.{known_name, unknown_name, AreWritten, AreWritesOf}
 use Rattle.epoch_store.proofs.Order.{and_first, and_second, both, cases, or_else, find_each}
 use Rattle.epoch_store.proofs.RowOrders.{known_order, unknown_order}
-use Rattle.epoch_store.proofs.Names.{FileFits, one_file, differ}
+use Rattle.database_state.specs.Generations.{FileFits, IsComing}
+use Rattle.database_state.proofs.Names.{one_file, differ}
 use Rattle.epoch_store.proofs.Phases.{puts-append}
 use Rattle.epoch_store.proofs.Values.{tells}
 use Rattle.epoch_store.proofs.Images.{place_kept, place_new}
 use Rattle.epoch_store.proofs.NextHead.{known_rise, unknown_rise}
-use Rattle.epoch_store.proofs.Stays.{with_same, with_other, IsComing, Keeps, AllComing, Bounded, bounded, known_is, found_passes, known_held, unknown_held, segments_held}
+use Rattle.epoch_store.proofs.Stays.{with_same, with_other, Keeps, AllComing, Bounded, bounded, known_is, found_passes, known_held, unknown_held, segments_held}
 use Rattle.epoch_store.proofs.Written.{NoneOf, untouched, each_written, TellsApart, tells_changed}
 
 -- an update that goes on from a head within the limits
@@ -199,7 +200,7 @@ image_same (Some image) F G same = same image refl
 other_image : (p r : KnownRow) → known_same p r ≡ true → p.image ≡ r.image
 other_image p r is = eqb-true p.image r.image (and_second (eqb p.epoch r.epoch) (eqb p.image r.image) (and_first (eqb p.epoch r.epoch && eqb p.image r.image) (eqb p.event r.event) is))
 
-found_same : (p : KnownRow) (rows : List KnownRow) (r : KnownRow) → find (known_same p) rows ≡ Some r → known_same p r ≡ true
+pub found_same : (p : KnownRow) (rows : List KnownRow) (r : KnownRow) → find (known_same p) rows ≡ Some r → known_same p r ≡ true
 found_same p [] r found = absurd cc
 found_same p (x ∷ rows) r found = elim (cases (known_same p x)) [
   | inl holds ↦
@@ -211,7 +212,7 @@ found_same p (x ∷ rows) r found = elim (cases (known_same p x)) [
       found_same p rows r later
 ]
 
-no_row : (h : heads.Head) (epoch image event : ℕ) → Bounded h → length h.names ≤ image → known_row h.known epoch image event ≡ None
+pub no_row : (h : heads.Head) (epoch image event : ℕ) → Bounded h → length h.names ≤ image → known_row h.known epoch image event ≡ None
 no_row h epoch image event is past = by_row (known_row h.known epoch image event) refl
   where
     by_row : (o : Option KnownRow) → known_row h.known epoch image event ≡ o → o ≡ None

@@ -22,7 +22,8 @@ use Rattle.database_state.specs.Standing.{seal_file, segment_file, value_in, kno
 use Rattle.head_file.proofs.Limits.{AreRanges, ranges_of, le_of, lt_of}
 use Rattle.epoch_store.specs.Puts.{Put, put, puts, PutSome}
 use Rattle.epoch_store.proofs.Order.{and_first, and_second, cases}
-use Rattle.epoch_store.proofs.Names.{FileFits, generation_of, one_file, no_seal}
+use Rattle.database_state.specs.Generations.{FileFits, generation_of, IsComing}
+use Rattle.database_state.proofs.Names.{one_file, no_seal}
 
 -- ---- one name
 
@@ -36,13 +37,6 @@ with_other name n x f apart = elim (cases (bytes_eq name n)) [
 ]
 
 -- ---- files of the coming generation
-
--- a name of a file of generation g
-pub record IsComing (g : ℕ) (name : List ℕ) : Type 0 where
-  pub file : FileRef
-  pub fits : FileFits file
-  pub of : generation_of file ≡ g
-  pub is : name ≡ file_name file
 
 -- c has what d has, but for files of generation g
 abbrev pub Agree : ℕ → Files → Files → Type 0

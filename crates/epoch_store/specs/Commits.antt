@@ -13,11 +13,11 @@ use Rattle.database_state.specs.Database as said
 use Rattle.database_state.specs.Heads.{Head, IsHead, head_text}
 use Rattle.database_state.specs.Updates.{KnownUpdate, UnknownUpdate, Update, known_row_of, unknown_row_of, updated}
 use Rattle.database_state.specs.Standing.{seal_file, head_file, segment_file, HaveHead, database_of, StandsFor}
-use Rattle.epoch_store.specs.declared.faults.DbFault.{DbFault}
-use Rattle.epoch_store.specs.declared.faults.DbFault.TheVariants.{StoreFault, Bad, Full, Memory}
-use Rattle.epoch_store.specs.declared.faults.FullWhat.TheVariants.{Rows}
-use Rattle.epoch_store.specs.declared.faults.DbError.{DbError}
-use Rattle.epoch_store.specs.declared.faults.DbError.TheVariants.{Fault, Stopped}
+use Rattle.database_state.specs.declared.faults.DbFault.{DbFault}
+use Rattle.database_state.specs.declared.faults.DbFault.TheVariants.{StoreFault, Bad, Full, Memory}
+use Rattle.database_state.specs.declared.faults.FullWhat.TheVariants.{Rows}
+use Rattle.database_state.specs.declared.faults.DbError.{DbError}
+use Rattle.database_state.specs.declared.faults.DbError.TheVariants.{Fault, Stopped}
 use Rattle.epoch_store.specs.Puts.{Put, puts, PutSome}
 
 -- the file of a changed profile at generation g

@@ -2,17 +2,10 @@
 use Rattle.std.specs.Prelude.{◌≡◌, ℕ, ◌≤◌, Ok, Err}
 use Rattle.std.specs.declared.result.Result.{Result}
 use Rattle.outside_io.specs.Causes.{Rose}
-use Rattle.store_io.specs.declared.errors.StoreError.{StoreError}
-use Rattle.store_io.specs.declared.errors.StoreError.TheVariants as store
-use Rattle.epoch_store.specs.declared.faults.DbFault.{DbFault}
-use Rattle.epoch_store.specs.declared.faults.DbFault.TheVariants.{StoreFault, Bad, Full, Memory}
-use Rattle.epoch_store.specs.declared.faults.DbError.{DbError}
-use Rattle.epoch_store.specs.declared.faults.DbError.TheVariants.{Fault, Stopped}
-
--- the fault that an error of the store becomes
-abbrev pub fault_of : StoreError → DbFault
-fault_of store.Failed = StoreFault
-fault_of store.Memory = Memory
+use Rattle.database_state.specs.declared.faults.DbFault.{DbFault}
+use Rattle.database_state.specs.declared.faults.DbFault.TheVariants.{StoreFault, Bad, Full, Memory}
+use Rattle.database_state.specs.declared.faults.DbError.{DbError}
+use Rattle.database_state.specs.declared.faults.DbError.TheVariants.{Fault, Stopped}
 
 -- a fault of a call that reads: `StoreFault` where the count of the store's faults rose, and never `Full`
 abbrev pub IsReadCause : ℕ → ℕ → DbFault → Type 0

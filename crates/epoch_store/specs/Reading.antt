@@ -10,11 +10,12 @@ use Rattle.database_model.specs.declared.profiles.ProfileRow.{ProfileRow}
 use Rattle.database_model.specs.ProfileForm.{format1}
 use Rattle.database_state.specs.declared.rows.KnownRow.{KnownRow}
 use Rattle.database_state.specs.declared.rows.UnknownRow.{UnknownRow}
-use Rattle.database_state.specs.Rows.{known_file, unknown_file}
+use Rattle.database_state.specs.Rows.{known_ref, unknown_ref}
+use Rattle.store_io.specs.FileNames.{file_name}
 use Rattle.database_state.specs.Heads.{Head, IsHead, head_text}
 use Rattle.database_state.specs.Standing.{IsLatest, HaveHead, head_file, value_in}
-use Rattle.epoch_store.specs.declared.faults.DbFault.{DbFault}
-use Rattle.epoch_store.specs.declared.faults.DbFault.TheVariants.{StoreFault, Bad, Full, Memory}
+use Rattle.database_state.specs.declared.faults.DbFault.{DbFault}
+use Rattle.database_state.specs.declared.faults.DbFault.TheVariants.{StoreFault, Bad, Full, Memory}
 use Rattle.epoch_store.specs.declared.database.Database.{Database}
 use Rattle.epoch_store.specs.Databases.{head_of}
 
@@ -35,13 +36,14 @@ IsRefusal files (Bad file) = (g : ℕ) × (file ≡ named.Head g) × (1 ≤ g) �
 IsRefusal files (Full what held added) = ⊥
 IsRefusal files Memory = Unit {0}
 
--- what reading the head of generation g gives
+-- why the head of generation g was not read: `Bad` names it where it is missing or not in its form
 abbrev pub IsHeadless : Files → ℕ → DbFault → Type 0
 IsHeadless files g StoreFault = Unit {0}
 IsHeadless files g (Bad file) = (file ≡ named.Head g) × HasNoHead files g
 IsHeadless files g (Full what held added) = ⊥
 IsHeadless files g Memory = Unit {0}
 
+-- what reading the head of generation g gives
 abbrev pub FindsHead : Files → ℕ → Result Head DbFault → Type 0
 FindsHead files g (Ok h) = files (head_file g) ≡ Some (head_text h)
 FindsHead files g (Err fault) = IsHeadless files g fault
@@ -63,15 +65,19 @@ abbrev pub ReadsAs : {A B : Type 0} → (A → B) → FileRef → Option B → R
 ReadsAs view file told (Ok value) = told ≡ Some (view value)
 ReadsAs view file told (Err fault) = IsUnread file told fault
 
+-- the same of a value as it is
 abbrev pub Reads : {A : Type 0} → FileRef → Option A → Result A DbFault → Type 0
 Reads file told result = ReadsAs (λ value. value) file told result
 
--- what reading the profile of a row gives; no rows where there is no row
-abbrev pub ReadsKnown : Files → Option KnownRow → Result (List ProfileRow) DbFault → Type 0
-ReadsKnown files None result = result ≡ Ok []
-ReadsKnown files (Some r) result = Reads (named.Known r.epoch r.image r.event r.g) (value_in format1 (files (known_file r))) result
+-- what reading the file of a row gives; no rows where there is no row
+abbrev pub ReadsRow : {R : Type 0} → (R → FileRef) → Files → Option R → Result (List ProfileRow) DbFault → Type 0
+ReadsRow file files None result = result ≡ Ok []
+ReadsRow file files (Some r) result = Reads (file r) (value_in format1 (files (file_name (file r)))) result
 
--- what reading the unknown profile of a row gives; no rows where there is no row
+-- what reading the profile of a row gives
+abbrev pub ReadsKnown : Files → Option KnownRow → Result (List ProfileRow) DbFault → Type 0
+ReadsKnown files row result = ReadsRow known_ref files row result
+
+-- what reading the unknown profile of a row gives
 abbrev pub ReadsUnknown : Files → Option UnknownRow → Result (List ProfileRow) DbFault → Type 0
-ReadsUnknown files None result = result ≡ Ok []
-ReadsUnknown files (Some r) result = Reads (named.Unknown r.epoch r.event r.g) (value_in format1 (files (unknown_file r))) result
+ReadsUnknown files row result = ReadsRow unknown_ref files row result

@@ -1,4 +1,4 @@
-// The commit: a change of a database, whole or not at all.
+//! The commit: a change of a database, whole or not at all.
 ghost use Rattle.std.specs.Prelude.{◌≡◌, true, IfOk, IfErr, OnOk, OnErr};
 ghost use Rattle.store_io.specs.Files.{Files};
 ghost use Rattle.store_io.specs.Outcomes.{AfterSome, Told};
@@ -11,12 +11,11 @@ ghost use Rattle.epoch_store.specs.Faults.{HasWriteCause, HasCommitCause};
 ghost use Rattle.epoch_store.specs.Databases.{head_of, failed_of};
 ghost use Rattle.epoch_store.specs.Commits.{InCommit, AfterCommit, FilesChanged, HasRoom, FindsRoom, StaysAt, IsUntouched, KeepsFault, BeforeOrAfter};
 
-use crate::changes::Change;
 use crate::contents::{seal_name, writes_of};
 use crate::database::Database;
-use crate::faults::{DbError, DbFault};
 use crate::next::next_of;
 use crate::writes::write_all;
+use database_state::{Change, DbError, DbFault};
 use head_file::Head;
 use std::alloc::Global;
 use store_io::Store;

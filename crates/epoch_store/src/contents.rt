@@ -1,4 +1,4 @@
-// The files that a commit writes, with their names.
+//! The files that a commit writes, with their names.
 ghost use Rattle.std.specs.Prelude.{◌≡◌, ℕ, List, [], ◌∷◌, ◌++◌, ◌^◌, ◌<◌, true, codes, IfOk, OnOk, string_bytes};
 ghost use Rattle.std.specs.List.{list_all};
 ghost use Rattle.std.specs.Fmt.{decimal};
@@ -9,10 +9,10 @@ ghost use Rattle.database_model.specs.ProfileForm.{format1};
 ghost use Rattle.database_model.specs.Ranges.{IsSegment};
 ghost use Rattle.database_state.specs.Standing.{seal_file};
 ghost use Rattle.epoch_store.specs.Puts.{Put};
-ghost use Rattle.epoch_store.specs.Commits.{known_name, unknown_name, AreWritten, AreWritesOf};
+ghost use Rattle.epoch_store.specs.Commits.{AreWritten, AreWritesOf};
 
-use crate::changes::{Change, KnownFile, UnknownFile};
 use crate::writes::Write;
+use database_state::{Change, Changed};
 use head_file::{Head, write_head};
 use profile_file::{Profile, write_profile};
 use run_record::write_segment;
@@ -30,8 +30,8 @@ pub fn writes_of(alloc: Global, next: &Head, change: &Change) -> Result<Vec<Writ
 {
     let g = next.generation;
     let mut writes = Vec::new(alloc);
-    put_known(alloc, &mut writes, &change.known, g)?;
-    put_unknown(alloc, &mut writes, &change.unknown, g)?;
+    put_profiles(alloc, &mut writes, &change.known, g)?;
+    put_profiles(alloc, &mut writes, &change.unknown, g)?;
     let part = write_segment(alloc, &change.segment)?;
     put_file(alloc, &mut writes, FileRef::Segment { g }, part)?;
     let text = write_head(alloc, next)?;
@@ -39,16 +39,19 @@ pub fn writes_of(alloc: Global, next: &Head, change: &Change) -> Result<Vec<Writ
     Ok(writes)
 }
 
-fn put_file(
+/// The writes of changed profiles of one kind.
+fn put_profiles<U: Changed>(
     alloc: Global,
     writes: &mut Vec<Write>,
-    file: FileRef,
-    bytes: Vec<u8>,
+    updates: &[U],
+    g: u32,
 ) -> Result<(), AllocError>
-    ensures { OnOk result (writes.new.items ≡ writes.old.items ++ record { name = file_name file; bytes = bytes.items } ∷ []) }
+    ensures { OnOk result ((ws : List Put) × (writes.new.items ≡ writes.old.items ++ ws)
+        × AreWritten (λ u. file_name (U.file g u)) U.rows updates.now ws) }
 {
-    let name = name_of(alloc, &file)?;
-    writes.push(Write { name, bytes })?;
+    for update in updates {
+        put_profile(alloc, writes, update.file(g), update.profile())?;
+    }
     Ok(())
 }
 
@@ -58,49 +61,26 @@ fn put_profile(
     file: FileRef,
     profile: &Profile,
 ) -> Result<(), AllocError>
-    ensures { OnOk result ((bytes : List ℕ) × (writes.new.items ≡ writes.old.items ++ record { name = file_name file; bytes = bytes } ∷ []) × Spells format1 bytes profile.now) }
+    ensures { OnOk result ((bytes : List ℕ)
+        × (writes.new.items ≡ writes.old.items ++ record { name = file_name file; bytes = bytes } ∷ [])
+        × Spells format1 bytes profile.now) }
 {
     let bytes = write_profile(alloc, profile)?;
     put_file(alloc, writes, file, bytes)?;
     Ok(())
 }
 
-fn put_known(
+fn put_file(
     alloc: Global,
     writes: &mut Vec<Write>,
-    updates: &[KnownFile],
-    g: u32,
+    file: FileRef,
+    bytes: Vec<u8>,
 ) -> Result<(), AllocError>
-    ensures { OnOk result ((ws : List Put) × (writes.new.items ≡ writes.old.items ++ ws) × AreWritten (known_name g) (λ k. k.rows) updates.now ws) }
+    ensures { OnOk result (writes.new.items
+        ≡ writes.old.items ++ record { name = file_name file; bytes = bytes.items } ∷ []) }
 {
-    for update in updates {
-        let file = FileRef::Known {
-            epoch: update.epoch,
-            image: update.image,
-            event: update.event.code(),
-            g,
-        };
-        put_profile(alloc, writes, file, &update.profile)?;
-    }
-    Ok(())
-}
-
-fn put_unknown(
-    alloc: Global,
-    writes: &mut Vec<Write>,
-    updates: &[UnknownFile],
-    g: u32,
-) -> Result<(), AllocError>
-    ensures { OnOk result ((ws : List Put) × (writes.new.items ≡ writes.old.items ++ ws) × AreWritten (unknown_name g) (λ k. k.rows) updates.now ws) }
-{
-    for update in updates {
-        let file = FileRef::Unknown {
-            epoch: update.epoch,
-            event: update.event.code(),
-            g,
-        };
-        put_profile(alloc, writes, file, &update.profile)?;
-    }
+    let name = name_of(alloc, &file)?;
+    writes.push(Write { name, bytes })?;
     Ok(())
 }
 

@@ -1,9 +1,8 @@
-// An opened database.
+//! An opened database: its head, and the fault of the commit that failed.
 ghost use Rattle.std.specs.Prelude.{◌≡◌, true};
 ghost use Rattle.database_state.specs.Heads.{is_in_range};
 
-use crate::faults::DbFault;
-use database_state::{KnownRow, UnknownRow};
+use database_state::{DbFault, KnownRow, UnknownRow};
 use head_file::Head;
 use image_catalog::Catalog;
 use std::alloc::Global;
@@ -19,8 +18,10 @@ pub struct Database {
 
 impl Database {
     ghost use Rattle.std.specs.Prelude.{None};
+    ghost use Rattle.std.specs.List.{list_all};
+    ghost use Rattle.database_state.specs.Rows.{is_rising, known_before, unknown_before};
     ghost use Rattle.database_state.specs.Heads.{empty_head, IsHead};
-    ghost use Rattle.epoch_store.specs.Databases.{head_of, failed_of};
+    ghost use Rattle.epoch_store.specs.Databases.{head_of, failed_of, is_row_of, is_unknown_row_of};
 
     /// The database before the first commit.
     pub(crate) fn empty(alloc: Global) -> Database
@@ -77,16 +78,21 @@ impl Database {
         &self.head.catalog
     }
 
-    /// The rows of the profiles, by epoch, image number and event code.
+    /// The rows of the profiles, by epoch, image number and event code: each of an epoch up to the last one, of an image
+    /// that there is, of an event code up to 3, and of a generation from 1 to the present one.
     pub fn known_rows(&self) -> &[KnownRow]
-        ensures { result.now ≡ (head_of self.now).known }
+        ensures list { result.now ≡ (head_of self.now).known }
+        ensures rising { is_rising known_before result.now ≡ true }
+        ensures ranges { list_all (is_row_of (head_of self.now)) result.now ≡ true }
     {
         &self.head.known
     }
 
-    /// The rows of the unknown profiles, by epoch and event code.
+    /// The rows of the unknown profiles, by epoch and event code, in the same ranges.
     pub fn unknown_rows(&self) -> &[UnknownRow]
-        ensures { result.now ≡ (head_of self.now).unknown }
+        ensures list { result.now ≡ (head_of self.now).unknown }
+        ensures rising { is_rising unknown_before result.now ≡ true }
+        ensures ranges { list_all (is_unknown_row_of (head_of self.now)) result.now ≡ true }
     {
         &self.head.unknown
     }

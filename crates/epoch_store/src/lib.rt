@@ -4,11 +4,9 @@
 //! generation and its seal, in this order; the database is what the greatest sealed head says.
 #![tactic(auto)]
 
-mod changes;
 mod committing;
 mod contents;
 mod database;
-mod faults;
 mod laws;
 mod next;
 mod opening;
@@ -16,14 +14,15 @@ mod places;
 mod reading;
 mod rows;
 mod seals;
-#[cfg(test)]
-mod tests;
 mod writes;
 
-pub use changes::{Change, KnownFile, UnknownFile};
 pub use committing::commit;
 pub use database::Database;
-pub use faults::{DbError, DbFault, FullWhat};
-pub use laws::readers_read_the_database;
+pub use database_state::{
+    Change, DbError, DbFault, FullWhat, KnownFile, KnownRow, UnknownFile, UnknownRow,
+};
+pub use laws::{
+    files_stand_for_one_database, readers_read_the_database, what_stands_is_within_limits,
+};
 pub use opening::open_database;
 pub use reading::{read_known, read_run_part, read_unknown};

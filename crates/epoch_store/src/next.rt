@@ -1,4 +1,4 @@
-// The head after a commit.
+//! The head after a commit: its rows, if there is room for them, and its images.
 ghost use Rattle.std.specs.Prelude.{◌≡◌, ℕ, [], ◌∷◌, ◌++◌, true, IfOk, OnOk};
 ghost use Rattle.image_catalog.specs.Images.{AreImages};
 ghost use Rattle.database_state.specs.Heads.{is_in_range, row_count};
@@ -6,16 +6,12 @@ ghost use Rattle.database_state.specs.Updates.{Fits, head_after, rows_added};
 ghost use Rattle.epoch_store.specs.Faults.{HasWriteCause};
 ghost use Rattle.epoch_store.specs.Commits.{HasRoom};
 
-use crate::changes::Change;
-use crate::faults::{DbFault, FullWhat};
 use crate::rows::{known_after, unknown_after};
+use database_state::{Change, DbFault, FullWhat, MOST_ROWS};
 use head_file::Head;
 use image_catalog::{Catalog, CatalogError};
 use std::alloc::{AllocError, Global};
 use text_num::Name;
-
-/// The most rows of a head, its segments among them.
-const MOST_ROWS: u128 = 65536;
 
 /// The head after a change, if it has room for the rows that are added.
 pub fn next_of(alloc: Global, head: &Head, change: &Change) -> Result<Head, DbFault>

@@ -1,4 +1,4 @@
-// Opening a database.
+//! Opening a database: the head of the greatest sealed generation.
 ghost use Rattle.std.specs.Prelude.{◌≡◌, None, Some, IfOk};
 ghost use Rattle.store_io.specs.Files.{Files};
 ghost use Rattle.epoch_store.specs.Faults.{HasDbCause};
@@ -7,9 +7,9 @@ ghost use Rattle.database_state.specs.Heads.{IsHead};
 ghost use Rattle.epoch_store.specs.Reading.{OnlyReads, Opens, FindsHead};
 
 use crate::database::Database;
-use crate::faults::DbFault;
 use crate::reading::read_file;
 use crate::seals::greatest_seal;
+use database_state::DbFault;
 use head_file::{Head, read_head};
 use std::alloc::Global;
 use store_io::{FileRef, Store};

@@ -1,4 +1,4 @@
-// Where places stand among rows in their order.
+//! Where places stand among rows in their order.
 ghost use Rattle.std.specs.Prelude.{◌≡◌, ◌≤◌, true, false, length, find};
 ghost use Rattle.std.specs.List.{AllWithin};
 ghost use Rattle.database_state.specs.Rows.{is_rising};

@@ -1,21 +1,22 @@
-// Reading the files of a database.
-ghost use Rattle.std.specs.Prelude.{◌≡◌, ◌≤◌, ℕ, [], true, None, Some, Ok};
+//! Reading the files of a database: a profile, an unknown profile, a part of a run.
+ghost use Rattle.std.specs.Prelude.{◌≡◌, ◌≤◌, ℕ, [], true, None, Some, Ok, IfOk, find};
 ghost use Rattle.store_io.specs.Files.{Files, contents};
 ghost use Rattle.store_io.specs.FileNames.{file_name};
 ghost use Rattle.store_io.specs.declared.file_refs.FileRef.TheVariants.{Segment};
 ghost use Rattle.sample_key.specs.Events.{code_of};
 ghost use Rattle.database_model.specs.ProfileForm.{format1};
 ghost use Rattle.database_model.specs.SegmentForm.{segment};
-ghost use Rattle.database_state.specs.Rows.{is_rising, known_before, unknown_before, known_row, unknown_row};
+ghost use Rattle.database_model.specs.Ranges.{IsSegment};
+ghost use Rattle.database_state.specs.Rows.{is_rising, known_row, unknown_row};
 ghost use Rattle.database_state.specs.Standing.{value_in, segment_file};
 ghost use Rattle.epoch_store.specs.Faults.{HasDbCause};
 ghost use Rattle.epoch_store.specs.Databases.{head_of};
-ghost use Rattle.epoch_store.specs.Reading.{OnlyReads, ReadsAs, Reads, ReadsKnown, ReadsUnknown};
+ghost use Rattle.epoch_store.specs.Orders.{IsOrder};
+ghost use Rattle.epoch_store.specs.Reading.{OnlyReads, ReadsAs, Reads, ReadsRow, ReadsKnown, ReadsUnknown};
 
 use crate::database::Database;
-use crate::faults::DbFault;
 use crate::places::find_row;
-use database_state::{KnownRow, UnknownRow};
+use database_state::{DbFault, KnownRow, Placed, UnknownRow};
 use profile_file::{Profile, ProfileError, read_profile};
 use run_record::{RunSegment, SegmentError, read_segment};
 use sample_key::Event;
@@ -39,24 +40,13 @@ pub fn read_known<D: Store>(
     ensures cause { HasDbCause (D.faults store.old) (D.faults store.new) result }
     ensures origin { D.origin store.new ≡ D.origin store.old }
 {
-    match find_known(db.known_rows(), epoch, image, event.code()) {
-        None => Ok(Profile::new(alloc)),
-        Some(row) => {
-            let KnownRow {
-                epoch,
-                image,
-                event,
-                g,
-            } = row;
-            let file = FileRef::Known {
-                epoch,
-                image,
-                event,
-                g,
-            };
-            profile_of(alloc, store, file)
-        }
-    }
+    let place = KnownRow {
+        epoch,
+        image,
+        event: event.code(),
+        g: 0,
+    };
+    read_row(alloc, db.known_rows(), place, store)
 }
 
 /// Reads the unknown profile of an epoch and an event; the empty profile where the head has no such row.
@@ -75,14 +65,12 @@ pub fn read_unknown<D: Store>(
     ensures cause { HasDbCause (D.faults store.old) (D.faults store.new) result }
     ensures origin { D.origin store.new ≡ D.origin store.old }
 {
-    match find_unknown(db.unknown_rows(), epoch, event.code()) {
-        None => Ok(Profile::new(alloc)),
-        Some(row) => {
-            let UnknownRow { epoch, event, g } = row;
-            let file = FileRef::Unknown { epoch, event, g };
-            profile_of(alloc, store, file)
-        }
-    }
+    let place = UnknownRow {
+        epoch,
+        event: event.code(),
+        g: 0,
+    };
+    read_row(alloc, db.unknown_rows(), place, store)
 }
 
 /// Reads the run's part that was committed at generation `g`.
@@ -96,6 +84,7 @@ pub fn read_run_part<D: Store>(
 ) -> Result<RunSegment, DbFault>
     requires some { 1 ≤ g }
     requires held { g ≤ (head_of db.now).generation }
+    ensures ranges { IfOk result (λ part. IsSegment part) }
     ensures segment { (files : Files) → D.files store.old ≡ Some files → Reads (Segment g) (value_in segment (files (segment_file g))) result }
     ensures reads { OnlyReads (D.files store.old) (D.files store.new) (D.moment store.old) (D.moment store.new) (D.left_since store.old) (D.left_since store.new) }
     ensures cause { HasDbCause (D.faults store.old) (D.faults store.new) result }
@@ -108,25 +97,25 @@ pub fn read_run_part<D: Store>(
     Ok(part)
 }
 
-fn find_known(rows: &[KnownRow], epoch: u32, image: u32, event: u8) -> Option<KnownRow>
-    requires { is_rising known_before rows.now ≡ true }
-    ensures { result ≡ known_row rows.now epoch image event }
+/// Reads the file of the row of a place.
+fn read_row<R: Placed, D: Store>(
+    alloc: Global,
+    rows: &[R],
+    place: R,
+    store: &mut D,
+) -> Result<Profile, DbFault>
+    requires order { IsOrder R.before R.same }
+    requires rising { is_rising R.before rows.now ≡ true }
+    ensures profile { (files : Files) → D.files store.old ≡ Some files → ReadsRow R.file files (find (R.same place) rows.now) result }
+    ensures absent { find (R.same place) rows.now ≡ None → result ≡ Ok [] }
+    ensures reads { OnlyReads (D.files store.old) (D.files store.new) (D.moment store.old) (D.moment store.new) (D.left_since store.old) (D.left_since store.new) }
+    ensures cause { HasDbCause (D.faults store.old) (D.faults store.new) result }
+    ensures origin { D.origin store.new ≡ D.origin store.old }
 {
-    let place = KnownRow {
-        epoch,
-        image,
-        event,
-        g: 0,
-    };
-    find_row(rows, place)
-}
-
-fn find_unknown(rows: &[UnknownRow], epoch: u32, event: u8) -> Option<UnknownRow>
-    requires { is_rising unknown_before rows.now ≡ true }
-    ensures { result ≡ unknown_row rows.now epoch event }
-{
-    let place = UnknownRow { epoch, event, g: 0 };
-    find_row(rows, place)
+    match find_row(rows, place) {
+        None => Ok(Profile::new(alloc)),
+        Some(row) => profile_of(alloc, store, row.file()),
+    }
 }
 
 fn profile_of<D: Store>(alloc: Global, store: &mut D, file: FileRef) -> Result<Profile, DbFault>
@@ -154,6 +143,7 @@ fn profile_in(alloc: Global, file: FileRef, bytes: &[u8]) -> Result<Profile, DbF
 
 /// The segment that the bytes of a file tell.
 fn segment_in(alloc: Global, file: FileRef, bytes: &[u8]) -> Result<RunSegment, DbFault>
+    ensures ranges { IfOk result (λ part. IsSegment part) }
     ensures segment { Reads file (value_in segment (Some bytes.now)) result }
     ensures cause { (n : ℕ) → HasDbCause n n result }
 {

@@ -1,7 +1,8 @@
-// The seals among the names of a store.
+//! The seals among the names of a store: the greatest of them, and the number of one.
 ghost use Rattle.std.specs.Prelude.{◌≡◌, ◌≤◌, IfSome};
 ghost use Rattle.epoch_store.specs.Seals.{seal_number, later, greatest_seal};
 
+use database_state::LAST_GENERATION;
 use text_num::{Name, read_dec};
 
 /// The greatest generation whose seal is among the names; 0 where there is none.
@@ -35,7 +36,7 @@ fn seal_number(text: &[u8]) -> Option<u32>
         return None;
     }
     let g = read_dec(&text[5..])?;
-    if 1 <= g && g <= 65536 {
+    if 1 <= g && g <= LAST_GENERATION {
         Some(g as u32)
     } else {
         None

@@ -1,4 +1,4 @@
-// Writes that are to be made, one after the other.
+//! Writes that are to be made, one after the other.
 ghost use Rattle.std.specs.Prelude.{◌≡◌, OnOk};
 ghost use Rattle.store_io.specs.Files.{Files};
 ghost use Rattle.store_io.specs.Outcomes.{HasStoreCause, AfterSome, Told};
@@ -13,7 +13,9 @@ use text_num::Name;
 /// A name and the bytes that it is to have.
 #[derive(Drop)]
 pub struct Write {
+    /// The file's name.
     pub name: Name,
+    /// Its bytes.
     pub bytes: Vec<u8>,
 }
 

@@ -1,31 +1,24 @@
--- The row goes to the end, takes the place of another, or goes before one.
-use Rattle.std.proofs.Common.{arith, ◌≡◌, ◌<◌, ◌≤◌, length, true, false, ◌∙◌, sym, ap, subst, List}
-use Rattle.std.specs.List.{AllWithin}
-use Rattle.epoch_store.proofs.Halving.{inserted, replaced, appended}
+-- The next row comes before this one, or this one takes its place, goes before it, or goes behind all.
+use Rattle.std.proofs.Common.{arith, ◌∙◌, sym}
+use Rattle.epoch_store.proofs.Merging.{goes_past, goes_for, goes_ahead, goes_last}
 use Rattle.epoch_store.proofs.rows.put_row.Goals as goal
 
-pub returns-then-at-len : goal.returns-then-at-len
-returns-then-at-len g c =
-    let rows = c.args.rows.now.items in
-    let at = c.count_before-at.result in
-    let before : AllWithin (λ y. g.R.Placed.before y c.args.row ≡ true) rows 0 at = subst (λ (l : List g.row.R.Denot). AllWithin (λ y. g.R.Placed.before y c.args.row ≡ true) l 0 at) c.deref.ensures.value c.count_before-at.ensures.before in
-    let within : at ≤ length rows = omega (arith, c.count_before-at.ensures.within, ap length c.deref.ensures.value) in
-    let past : length rows ≤ at = omega (arith, c.if-at-len.true, c.len.ensures, c.args.rows.now.ok.0) in
-    c.in_ok-push.ensures.items ∙ appended c.requires.order rows c.args.row at before within past
+pub returns-then-is_same-clause-rows : goal.returns-then-is_same-clause-rows
+returns-then-is_same-clause-rows g c = λ more rising.
+    rw c.in_ok-push.ensures.items (goes_for c.requires.order c.args.rows.now c.loop-at.at c.index-rows-at.result c.args.row c.loop-at.after.items _ more c.loop-at-test.true c.index-rows-at.is (sym c.is_same.ensures ∙ c.if-is_same.true) rising (c.loop-at.invariant.rows more rising))
 
-pub returns-then-is_same : goal.returns-then-is_same
-returns-then-is_same g c =
-    let rows = c.args.rows.now.items in
-    let at = c.count_before-at.result in
-    let before : AllWithin (λ y. g.R.Placed.before y c.args.row ≡ true) rows 0 at = subst (λ (l : List g.row.R.Denot). AllWithin (λ y. g.R.Placed.before y c.args.row ≡ true) l 0 at) c.deref.ensures.value c.count_before-at.ensures.before in
-    let within : at < length rows = omega (arith, c.if-at-len.false, c.len.ensures, c.args.rows.now.ok.0) in
-    replaced c.requires.order rows c.args.row c.index-held.result.now at before within c.index-held.ensures (sym c.is_same.ensures ∙ c.if-is_same.true)
+pub returns-then-not-is_before-clause-rows : goal.returns-then-not-is_before-clause-rows
+returns-then-not-is_before-clause-rows g c = λ more rising.
+    rw c.in_ok-push.ensures.items (goes_ahead c.requires.order c.args.rows.now c.loop-at.at c.index-rows-at.result c.args.row c.loop-at.after.items _ more c.loop-at-test.true c.index-rows-at.is (sym c.is_before.ensures ∙ c.if-not-is_before.true) (sym c.is_same.ensures ∙ c.if-is_same.false) rising (c.loop-at.invariant.rows more rising))
 
-pub returns : goal.returns
-returns g c =
-    let rows = c.args.rows.now.items in
-    let at = c.count_before-at.result in
-    let before : AllWithin (λ y. g.R.Placed.before y c.args.row ≡ true) rows 0 at = subst (λ (l : List g.row.R.Denot). AllWithin (λ y. g.R.Placed.before y c.args.row ≡ true) l 0 at) c.deref.ensures.value c.count_before-at.ensures.before in
-    let behind : AllWithin (λ y. g.R.Placed.before y c.args.row ≡ false) rows at (length rows) = subst (λ (l : List g.row.R.Denot). AllWithin (λ y. g.R.Placed.before y c.args.row ≡ false) l at (length l)) c.deref.ensures.value c.count_before-at.ensures.behind in
-    let within : at < length rows = omega (arith, c.if-at-len.false, c.len.ensures, c.args.rows.now.ok.0) in
-    c.in_ok-insert.ensures.items ∙ inserted c.requires.order rows c.args.row c.index-held.result.now at before behind within c.index-held.ensures (sym c.is_same.ensures ∙ c.if-is_same.false)
+pub loop-at-preserved : goal.loop-at-preserved
+loop-at-preserved g c =
+    record {
+      within = omega (arith, c.loop-at-test.true);
+      rows = λ more rising.
+          rw c.in_ok-push-2.ensures.items (goes_past c.requires.order c.args.rows.now c.loop-at.at c.index-rows-at.result c.args.row c.loop-at.after.items _ more c.loop-at-test.true c.index-rows-at.is (sym c.is_before.ensures ∙ c.if-not-is_before.false) rising (c.loop-at.invariant.rows more rising));
+    }
+
+pub returns-clause-rows : goal.returns-clause-rows
+returns-clause-rows g c = λ more rising.
+    rw c.in_ok-push-3.ensures.items (goes_last c.requires.order c.args.rows.now c.loop-at.at c.args.row c.loop-at.after.items _ more c.loop-at-test.false rising (c.loop-at.invariant.rows more rising))
