@@ -11,18 +11,18 @@ use Rattle.store_io.specs.Outcomes.{Torn, Holds, AfterSome, Told}
 use Rattle.store_io.specs.Crashes.{Elapses, LeavesOnly}
 use Rattle.store_io.specs.FileNames.{file_name}
 use Rattle.store_io.specs.declared.file_refs.FileRef.{FileRef}
-use Rattle.store_io.proofs.History.{wider}
+use Rattle.store_io.proofs.Chains.{chain, wider, leaves_from}
 use Rattle.database_state.specs.Database.{Database}
 use Rattle.database_state.specs.Heads.{Head, IsHead, is_in_range, row_count}
 use Rattle.database_state.specs.Updates.{Update, Fits, updated, head_after, rows_added}
-use Rattle.database_state.specs.Standing.{seal_file, HaveHead, database_of, CrashesSay}
+use Rattle.database_state.specs.Standing.{seal_file, HaveHead, database_of, CrashesSay, SaysWhereTold}
 use Rattle.epoch_store.specs.Puts.{Put, puts, PutAll, PutSome}
 use Rattle.epoch_store.specs.Commits.{AreWritesOf, InCommit, AfterCommit, FilesChanged, BeforeOrAfter}
 use Rattle.epoch_store.proofs.Order.{cases}
 use Rattle.database_state.specs.Generations.{IsComing, OthersStay}
 use Rattle.database_state.proofs.Names.{no_seal, one_seal}
 use Rattle.epoch_store.proofs.NextHead.{next_is_head, rows_after}
-use Rattle.epoch_store.proofs.Phases.{chain, told_then}
+use Rattle.epoch_store.proofs.Phases.{told_then}
 use Rattle.epoch_store.proofs.Stays.{with_same, with_other, Agree, held, puts_agree, some_agree, seal_held, same_head, same_said}
 use Rattle.epoch_store.proofs.Sealed.{GoesOn, goes_bounded, goes_most, all_coming, all_stand, said_after}
 
@@ -102,11 +102,7 @@ files_changed h u (Some d) new range fits (c, is, made) = λ f here have.
 
 -- what a crash since then leaves
 pub any_moment : {D : Type 0} (moment : D → ℕ) (left_since : D → ℕ → Files → Type 0) (old new : D) (h : Head) (u : Update) → is_in_range h ≡ true → Fits h.epoch h.runs h.names u → Elapses (moment old) (moment new) (left_since old) (left_since new) (AfterSome (left_since old (moment old)) (InCommit (head_after u h) u)) → (said : Database) → CrashesSay (left_since old (moment old)) h said → LeavesOnly moment left_since old new (BeforeOrAfter u said)
-any_moment moment left_since old new h u range fits time said says = record {
-  later = time.later;
-  each = λ c here. elim (time.nothing_else (moment old) c (omega arith) here) [ inl was ↦ before c was | inr during ↦ within c during ];
-  before = λ t c le here. elim (time.nothing_else t c le here) [ inl was ↦ inl was | inr during ↦ inr (within c during) ];
-}
+any_moment moment left_since old new h u range fits time said says = leaves_from (BeforeOrAfter u said) before within time
   where
     before : (c : Files) → left_since old (moment old) c → BeforeOrAfter u said c
     before c was = let now = says c was in inl (h, now.0, now.1)
@@ -158,3 +154,30 @@ all_crash next u ws before mid after is one two = λ c here.
     let (e, was, holds) = two c here in
     let (d, past, all) = one e was in
     (d, past, whole next u ws is d e c all holds)
+
+-- ---- the files that a commit leaves alone
+
+-- the names of other generations stand for what they stood for
+pub others_stay : (h : Head) (u : Update) (d c : Files) → is_in_range h ≡ true → Fits h.epoch h.runs h.names u → AfterCommit (head_after u h) u d c → OthersStay (h.generation + 1) d c
+others_stay h u d c range fits made = λ n other.
+    let on : GoesOn h u = record { range = range; fits = fits; head = made.head } in
+    let agree = puts_agree (h.generation + 1) made.writes d d (all_coming h u made.writes on made.of) (λ m o. refl) in
+    ap (λ (f : Files). f n) made.all
+    ∙ with_other (seal_file (h.generation + 1)) n (Some []) (puts made.writes d) (λ e. other (inr (sym e)))
+    ∙ agree n (λ coming. other (inl coming))
+
+pub told_weaker : {S T : Files → Files → Type 0} (old new : Option Files) → ((d c : Files) → S d c → T d c) → Told S old new → Told T old new
+told_weaker None new weaker told = told
+told_weaker (Some d) new weaker told = (told.0, told.1, weaker d told.0 told.2)
+
+-- ---- from commit to commit
+
+-- what the files say where they are told goes on
+pub says_on : (S : Files → Files → Type 0) (h next : Head) (u : Update) (old new : Option Files) → Told S old new → FilesChanged u h next old new → (said : Database) → SaysWhereTold old h said → SaysWhereTold new next (updated u said)
+says_on S h next u None new told changed said says = λ f is. let none : None ≡ Some f = sym told ∙ is in absurd cc
+says_on S h next u (Some d) new told changed said says = λ f is.
+    let was = says d refl in
+    let (c, there, have, eq) = changed d refl was.0 in
+    let whole : Some c ≡ Some f = sym there ∙ is in
+    let same : c ≡ f = cc in
+    subst (λ (x : Files). HaveHead x next × (database_of next x ≡ updated u said)) same (have, eq ∙ ap (updated u) was.1)

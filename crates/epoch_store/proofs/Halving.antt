@@ -1,9 +1,9 @@
 -- What the number of rows before a place says of the rows.
-use Rattle.std.proofs.Common.{arith, ◌≡◌, ℕ, zero, suc, ◌+◌, ◌<◌, ◌≤◌, Bool, true, false, List, [], ◌∷◌, ◌++◌, None, Some, length, take, drop, get_or, set, refl, sym, ap, ◌∙◌, subst}
+use Rattle.std.proofs.Common.{arith, ◌≡◌, ℕ, zero, suc, ◌+◌, ◌<◌, ◌≤◌, Bool, true, false, List, [], ◌∷◌, None, Some, length, drop, get_or, refl, sym, ap, ◌∙◌, subst}
 use Rattle.std.specs.Prelude.{find}
-use Rattle.std.specs.List.{AllWithin, insert}
+use Rattle.std.specs.List.{AllWithin}
 use Rattle.std.specs.List.Sorted.{IsPartitionedBy}
-use Rattle.database_state.specs.Rows.{is_before_first, is_rising, with_row}
+use Rattle.database_state.specs.Rows.{is_before_first, is_rising}
 use Rattle.epoch_store.specs.Orders.{IsOrder}
 use Rattle.epoch_store.proofs.Order.{and_first, and_second, none_before}
 use Rattle.epoch_store.proofs.Inserting.{rest_at, found_here, found_later, found_nowhere}

@@ -1,9 +1,6 @@
 -- The row of a place, seen from the place that a walk over the rows has come to.
-use Rattle.std.proofs.Common.{arith, ◌≡◌, ℕ, suc, ◌+◌, ◌<◌, ◌≤◌, Bool, true, false, cond, List, [], ◌∷◌, ◌++◌, None, Some, length, take, drop, get_or, set, refl, sym, ap, ◌∙◌, drop-cons, add-one, append_assoc, take-append-drop, drop_of_length-le}
+use Rattle.std.proofs.Common.{◌≡◌, ℕ, suc, ◌+◌, ◌<◌, ◌≤◌, Bool, true, false, cond, List, ◌∷◌, None, Some, length, drop, get_or, sym, ap, ◌∙◌, drop-cons, add-one, drop_of_length-le}
 use Rattle.std.specs.Prelude.{find}
-use Rattle.std.specs.List.{insert}
-use Rattle.std.proofs.lemmas.List.{take_more, take_all, take_more_set, drop-set-lt}
-use Rattle.database_state.specs.Rows.{with_row}
 
 pub rest_at : {R : Type 0} (rows : List R) (i : ℕ) (x : R) → i < length rows → x ≡ get_or rows i x → drop i rows ≡ x ∷ drop (i + 1) rows
 rest_at rows i x within is = rw add-one (drop-cons rows i x within ∙ ap (λ y. y ∷ drop (suc i) rows) (sym is))

@@ -1,6 +1,5 @@
 -- Rows in their order with others in their order: each step of the merge keeps what both make together.
-use Rattle.std.proofs.Common.{arith, ◌≡◌, ℕ, zero, suc, ◌+◌, ◌<◌, ◌≤◌, inl, inr, Bool, true, false, cond, List, [], ◌∷◌, ◌++◌, length, map, drop, get_or, refl, sym, ap, ◌∙◌, append_assoc, drop_of_length-le}
-use Rattle.std.specs.Prelude.{fold}
+use Rattle.std.proofs.Common.{◌≡◌, ℕ, zero, suc, ◌+◌, ◌<◌, ◌≤◌, Bool, true, false, List, [], ◌∷◌, ◌++◌, length, map, drop, get_or, refl, sym, ap, ◌∙◌, append_assoc, drop_of_length-le}
 use Rattle.std.specs.List.{AllByRecursion}
 use Rattle.database_state.specs.Rows.{is_before_first, is_rising, with_row}
 use Rattle.epoch_store.specs.Orders.{IsOrder, with_rows}

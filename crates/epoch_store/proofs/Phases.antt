@@ -1,21 +1,10 @@
 -- Writes one after the other: what they make of the files, and what a crash in their midst leaves.
-use Rattle.std.proofs.Common.{arith, ◌≡◌, ℕ, suc, ◌+◌, ◌<◌, inl, inr, List, [], ◌∷◌, ◌++◌, None, Some, Option, length, take, drop, get_or, refl, sym, ap, ◌∙◌, subst, take-append-drop, drop-cons, add-one}
+use Rattle.std.proofs.Common.{◌≡◌, ℕ, suc, ◌+◌, ◌<◌, inl, inr, List, [], ◌∷◌, ◌++◌, None, Some, Option, length, take, drop, get_or, refl, sym, ap, ◌∙◌, subst, take-append-drop, drop-cons, add-one}
 use Rattle.store_io.specs.Files.{Files, with_file}
 use Rattle.store_io.specs.Outcomes.{Torn, Holds, AfterSome, Told}
 use Rattle.store_io.specs.Crashes.{Elapses}
-use Rattle.store_io.proofs.History.{stands_still}
+use Rattle.store_io.proofs.Chains.{chain, stands_still}
 use Rattle.epoch_store.specs.Puts.{Put, put, puts, PutAll, PutSome}
-
--- one call after another
-pub chain : {m0 m1 m2 : ℕ} {l0 l1 l2 : ℕ → Files → Type 0} {P Q : Files → Type 0} (R : Files → Type 0) → ((c : Files) → P c → R c) → ((c : Files) → Q c → R c) → Elapses m0 m1 l0 l1 P → Elapses m1 m2 l1 l2 Q → Elapses m0 m2 l0 l2 R
-chain R from_p from_q one two = record {
-  later = omega (arith, one.later, two.later);
-  nothing_else = λ t c le here. elim (two.nothing_else t c (omega (arith, le, one.later)) here) [
-    | inl past ↦ elim (one.nothing_else t c le past) [ inl was ↦ inl was | inr during ↦ inr (from_p c during) ]
-    | inr during ↦ inr (from_q c during)
-  ];
-  keeps = λ t c le was. two.keeps t c (omega (arith, le, one.later)) (one.keeps t c le was);
-}
 
 -- writes in two parts
 pub puts-append : (xs ys : List Put) (f : Files) → puts (xs ++ ys) f ≡ puts ys (puts xs f)

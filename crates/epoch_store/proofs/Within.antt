@@ -1,8 +1,8 @@
 -- What files stand for is within the limits of a database.
-use Rattle.std.proofs.Common.{arith, ◌≡◌, ℕ, ◌<◌, ◌≤◌, inl, inr, length, ap, subst, sym}
+use Rattle.std.proofs.Common.{arith, ◌≤◌, inl, inr, length, subst, sym}
 use Rattle.std.proofs.lemmas.Bool.{cases_lt}
 use Rattle.store_io.specs.Files.{Files}
-use Rattle.database_state.specs.Heads.{Head, row_count, empty_head}
+use Rattle.database_state.specs.Heads.{Head, row_count}
 use Rattle.database_state.specs.Standing.{HaveHead, database_of}
 use Rattle.database_state.specs.Limits.{IsWithinLimits}
 use Rattle.database_state.proofs.WithinLimits.{known_told, unknown_told}

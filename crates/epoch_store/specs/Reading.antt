@@ -3,7 +3,6 @@ use Rattle.std.specs.Prelude.{◌≡◌, ◌≢◌, ℕ, ◌≤◌, List, [], No
 use Rattle.std.specs.declared.option.Option.{Option}
 use Rattle.std.specs.declared.result.Result.{Result}
 use Rattle.store_io.specs.Files.{Files}
-use Rattle.store_io.specs.Crashes.{Elapses}
 use Rattle.store_io.specs.declared.file_refs.FileRef.{FileRef}
 use Rattle.store_io.specs.declared.file_refs.FileRef.TheVariants as named
 use Rattle.database_model.specs.declared.profiles.ProfileRow.{ProfileRow}
@@ -18,12 +17,6 @@ use Rattle.database_state.specs.declared.faults.DbFault.{DbFault}
 use Rattle.database_state.specs.declared.faults.DbFault.TheVariants.{StoreFault, Bad, Full, Memory}
 use Rattle.epoch_store.specs.declared.database.Database.{Database}
 use Rattle.epoch_store.specs.Databases.{head_of}
-
--- a call that changes no file, and nothing of what a crash may leave
-pub record OnlyReads (old new : Option Files) (before now : ℕ) (past since : ℕ → Files → Type 0) : Type 0 where
-  pub files : new ≡ old
-  pub crash : (c : Files) → since now c → past before c
-  pub time : Elapses before now past since (past before)
 
 -- the head of generation g is missing or not in its form
 abbrev pub HasNoHead : Files → ℕ → Type 0

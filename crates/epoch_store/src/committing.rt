@@ -1,12 +1,13 @@
 //! The commit: a change of a database, whole or not at all.
-ghost use Rattle.std.specs.Prelude.{◌≡◌, true, IfOk, IfErr, OnOk, OnErr};
+ghost use Rattle.std.specs.Prelude.{◌≡◌, ◌+◌, Some, true, IfOk, IfErr, OnOk, OnErr};
 ghost use Rattle.store_io.specs.Files.{Files};
 ghost use Rattle.store_io.specs.Outcomes.{AfterSome, Told};
-ghost use Rattle.store_io.specs.Crashes.{Elapses, LeavesOnly};
+ghost use Rattle.store_io.specs.Crashes.{LeftNow, Passes, LeavesOnly};
+ghost use Rattle.database_state.specs.Generations.{OthersStay};
 ghost use Rattle.database_state.specs.Database.{Database as Said};
 ghost use Rattle.database_state.specs.Heads.{IsHead, is_in_range, row_count};
 ghost use Rattle.database_state.specs.Updates.{Fits, updated, head_after, rows_added};
-ghost use Rattle.database_state.specs.Standing.{CrashesSay};
+ghost use Rattle.database_state.specs.Standing.{CrashesSay, SaysWhereTold};
 ghost use Rattle.epoch_store.specs.Faults.{HasWriteCause, HasCommitCause};
 ghost use Rattle.epoch_store.specs.Databases.{head_of, failed_of};
 ghost use Rattle.epoch_store.specs.Commits.{InCommit, AfterCommit, FilesChanged, HasRoom, FindsRoom, StaysAt, IsUntouched, KeepsFault, BeforeOrAfter};
@@ -33,15 +34,39 @@ pub fn commit<D: Store>(
 ) -> Result<(), DbError>
     requires { Fits (head_of db.old).epoch (head_of db.old).runs (head_of db.old).names change.now }
     ensures head { OnOk result (head_of db.new ≡ head_after change.now (head_of db.old)) }
-    ensures files { OnOk result (FilesChanged change.now (head_of db.old) (head_of db.new) (D.files store.old) (D.files store.new)) }
+    // The files say what they said, with the change.
+    ensures files { OnOk result (FilesChanged change.now (head_of db.old) (head_of db.new)
+        (D.files store.old) (D.files store.new)) }
+    // They are those of before with the writes of the change, in their order, and an empty seal.
+    ensures writes { OnOk result (Told (AfterCommit (head_after change.now (head_of db.old)) change.now)
+        (D.files store.old) (D.files store.new)) }
+    // No name of another generation changes.
+    ensures others { OnOk result (Told (OthersStay ((head_of db.old).generation + 1))
+        (D.files store.old) (D.files store.new)) }
+    // What the files said where the store told them, they say with the change where it tells them.
+    ensures told { OnOk result ((said : Said) →
+        SaysWhereTold (D.files store.old) (head_of db.old) said →
+        SaysWhereTold (D.files store.new) (head_of db.new) (updated change.now said)) }
     ensures room { FindsRoom (row_count (head_of db.old)) (rows_added change.now (head_of db.old)) result }
     ensures untouched { IsUntouched store.old store.new result }
     ensures answer { KeepsFault (failed_of db.old) (failed_of db.new) result }
     ensures refused { OnErr result (head_of db.new ≡ head_of db.old) }
+    // Each crash meanwhile leaves what a crash left before, with the first of the writes and one of them maybe torn.
+    ensures steps { Passes D.moment D.left_since store.old store.new
+        (AfterSome (LeftNow D.moment D.left_since store.old)
+            (InCommit (head_after change.now (head_of db.old)) change.now)) }
     // Where each crash at the start leaves the database, each crash since then leaves that database or the changed one.
-    ensures any_moment { (said : Said) → CrashesSay (D.left_since store.old (D.moment store.old)) (head_of db.old) said → LeavesOnly D.moment D.left_since store.old store.new (BeforeOrAfter change.now said) }
+    ensures any_moment { (said : Said) →
+        CrashesSay (LeftNow D.moment D.left_since store.old) (head_of db.old) said →
+        LeavesOnly D.moment D.left_since store.old store.new (BeforeOrAfter change.now said) }
+    // And so do the present files, after an error too.
+    ensures present { (said : Said) →
+        CrashesSay (LeftNow D.moment D.left_since store.old) (head_of db.old) said →
+        (f : Files) → D.files store.new ≡ Some f → BeforeOrAfter change.now said f }
     // And each crash after the end leaves the changed one.
-    ensures after { OnOk result ((said : Said) → CrashesSay (D.left_since store.old (D.moment store.old)) (head_of db.old) said → CrashesSay (D.left_since store.new (D.moment store.new)) (head_of db.new) (updated change.now said)) }
+    ensures after { OnOk result ((said : Said) →
+        CrashesSay (LeftNow D.moment D.left_since store.old) (head_of db.old) said →
+        CrashesSay (LeftNow D.moment D.left_since store.new) (head_of db.new) (updated change.now said)) }
     ensures cause { HasCommitCause (D.faults store.old) (D.faults store.new) result }
     ensures origin { D.origin store.new ≡ D.origin store.old }
 {
@@ -72,9 +97,14 @@ fn try_commit<D: Store>(
     ensures head { IfOk result (λ next. (next ≡ head_after change.now head.now) × IsHead next) }
     ensures room { HasRoom (row_count head.now) (rows_added change.now head.now) result }
     ensures untouched { IfErr result (StaysAt store.old store.new) }
-    ensures files { OnOk result (Told (AfterCommit (head_after change.now head.now) change.now) (D.files store.old) (D.files store.new)) }
-    ensures crash { OnOk result ((c : Files) → D.left_since store.new (D.moment store.new) c → AfterSome (D.left_since store.old (D.moment store.old)) (AfterCommit (head_after change.now head.now) change.now) c) }
-    ensures time { Elapses (D.moment store.old) (D.moment store.new) (D.left_since store.old) (D.left_since store.new) (AfterSome (D.left_since store.old (D.moment store.old)) (InCommit (head_after change.now head.now) change.now)) }
+    ensures files { OnOk result (Told (AfterCommit (head_after change.now head.now) change.now)
+        (D.files store.old) (D.files store.new)) }
+    ensures crash { OnOk result ((c : Files) → LeftNow D.moment D.left_since store.new c →
+        AfterSome (LeftNow D.moment D.left_since store.old)
+            (AfterCommit (head_after change.now head.now) change.now) c) }
+    ensures time { Passes D.moment D.left_since store.old store.new
+        (AfterSome (LeftNow D.moment D.left_since store.old)
+            (InCommit (head_after change.now head.now) change.now)) }
     ensures cause { HasWriteCause (D.faults store.old) (D.faults store.new) result }
     ensures origin { D.origin store.new ≡ D.origin store.old }
 {

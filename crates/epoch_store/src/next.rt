@@ -33,8 +33,7 @@ pub fn next_of(alloc: Global, head: &Head, change: &Change) -> Result<Head, DbFa
             added: rows - u128::from(held),
         });
     }
-    let mut catalog = Catalog::new(alloc);
-    add_names(alloc, &mut catalog, head.catalog.names())?;
+    let mut catalog = head.catalog.copy(alloc)?;
     add_names(alloc, &mut catalog, &change.names)?;
     Ok(Head {
         generation,

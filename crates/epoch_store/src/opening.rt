@@ -1,10 +1,11 @@
 //! Opening a database: the head of the greatest sealed generation.
 ghost use Rattle.std.specs.Prelude.{◌≡◌, None, Some, IfOk};
+ghost use Rattle.store_io.specs.Crashes.{OnlyReads};
 ghost use Rattle.store_io.specs.Files.{Files};
 ghost use Rattle.epoch_store.specs.Faults.{HasDbCause};
 ghost use Rattle.epoch_store.specs.Databases.{failed_of};
 ghost use Rattle.database_state.specs.Heads.{IsHead};
-ghost use Rattle.epoch_store.specs.Reading.{OnlyReads, Opens, FindsHead};
+ghost use Rattle.epoch_store.specs.Reading.{Opens, FindsHead};
 
 use crate::database::Database;
 use crate::reading::read_file;
@@ -22,7 +23,8 @@ use text_num::one_spelling;
 pub fn open_database<D: Store>(alloc: Global, store: &mut D) -> Result<Database, DbFault>
     ensures head { (files : Files) → D.files store.old ≡ Some files → Opens files result }
     ensures fresh { IfOk result (λ db. failed_of db ≡ None) }
-    ensures reads { OnlyReads (D.files store.old) (D.files store.new) (D.moment store.old) (D.moment store.new) (D.left_since store.old) (D.left_since store.new) }
+    ensures reads { OnlyReads (D.files store.old) (D.files store.new) (D.moment store.old)
+        (D.moment store.new) (D.left_since store.old) (D.left_since store.new) }
     ensures cause { HasDbCause (D.faults store.old) (D.faults store.new) result }
     ensures origin { D.origin store.new ≡ D.origin store.old }
 {
@@ -39,7 +41,8 @@ pub fn open_database<D: Store>(alloc: Global, store: &mut D) -> Result<Database,
 /// The head of a sealed generation.
 fn sealed_head<D: Store>(alloc: Global, store: &mut D, g: u32) -> Result<Head, DbFault>
     ensures head { (files : Files) → D.files store.old ≡ Some files → FindsHead files g result }
-    ensures reads { OnlyReads (D.files store.old) (D.files store.new) (D.moment store.old) (D.moment store.new) (D.left_since store.old) (D.left_since store.new) }
+    ensures reads { OnlyReads (D.files store.old) (D.files store.new) (D.moment store.old)
+        (D.moment store.new) (D.left_since store.old) (D.left_since store.new) }
     ensures cause { HasDbCause (D.faults store.old) (D.faults store.new) result }
     ensures origin { D.origin store.new ≡ D.origin store.old }
     ensures is_head { IfOk result (λ head. IsHead head × (head.generation ≡ g)) }

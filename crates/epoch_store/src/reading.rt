@@ -1,5 +1,6 @@
 //! Reading the files of a database: a profile, an unknown profile, a part of a run.
 ghost use Rattle.std.specs.Prelude.{◌≡◌, ◌≤◌, ℕ, [], true, None, Some, Ok, IfOk, find};
+ghost use Rattle.store_io.specs.Crashes.{OnlyReads};
 ghost use Rattle.store_io.specs.Files.{Files, contents};
 ghost use Rattle.store_io.specs.FileNames.{file_name};
 ghost use Rattle.store_io.specs.declared.file_refs.FileRef.TheVariants.{Segment};
@@ -12,7 +13,7 @@ ghost use Rattle.database_state.specs.Standing.{value_in, segment_file};
 ghost use Rattle.epoch_store.specs.Faults.{HasDbCause};
 ghost use Rattle.epoch_store.specs.Databases.{head_of};
 ghost use Rattle.epoch_store.specs.Orders.{IsOrder};
-ghost use Rattle.epoch_store.specs.Reading.{OnlyReads, ReadsAs, Reads, ReadsRow, ReadsKnown, ReadsUnknown};
+ghost use Rattle.epoch_store.specs.Reading.{ReadsAs, Reads, ReadsRow, ReadsKnown, ReadsUnknown};
 
 use crate::database::Database;
 use crate::places::find_row;
@@ -34,9 +35,11 @@ pub fn read_known<D: Store>(
     image: u32,
     event: Event,
 ) -> Result<Profile, DbFault>
-    ensures profile { (files : Files) → D.files store.old ≡ Some files → ReadsKnown files (known_row (head_of db.now).known epoch image (code_of event)) result }
+    ensures profile { (files : Files) → D.files store.old ≡ Some files →
+        ReadsKnown files (known_row (head_of db.now).known epoch image (code_of event)) result }
     ensures absent { known_row (head_of db.now).known epoch image (code_of event) ≡ None → result ≡ Ok [] }
-    ensures reads { OnlyReads (D.files store.old) (D.files store.new) (D.moment store.old) (D.moment store.new) (D.left_since store.old) (D.left_since store.new) }
+    ensures reads { OnlyReads (D.files store.old) (D.files store.new) (D.moment store.old)
+        (D.moment store.new) (D.left_since store.old) (D.left_since store.new) }
     ensures cause { HasDbCause (D.faults store.old) (D.faults store.new) result }
     ensures origin { D.origin store.new ≡ D.origin store.old }
 {
@@ -59,9 +62,11 @@ pub fn read_unknown<D: Store>(
     epoch: u32,
     event: Event,
 ) -> Result<Profile, DbFault>
-    ensures profile { (files : Files) → D.files store.old ≡ Some files → ReadsUnknown files (unknown_row (head_of db.now).unknown epoch (code_of event)) result }
+    ensures profile { (files : Files) → D.files store.old ≡ Some files →
+        ReadsUnknown files (unknown_row (head_of db.now).unknown epoch (code_of event)) result }
     ensures absent { unknown_row (head_of db.now).unknown epoch (code_of event) ≡ None → result ≡ Ok [] }
-    ensures reads { OnlyReads (D.files store.old) (D.files store.new) (D.moment store.old) (D.moment store.new) (D.left_since store.old) (D.left_since store.new) }
+    ensures reads { OnlyReads (D.files store.old) (D.files store.new) (D.moment store.old)
+        (D.moment store.new) (D.left_since store.old) (D.left_since store.new) }
     ensures cause { HasDbCause (D.faults store.old) (D.faults store.new) result }
     ensures origin { D.origin store.new ≡ D.origin store.old }
 {
@@ -85,8 +90,10 @@ pub fn read_run_part<D: Store>(
     requires some { 1 ≤ g }
     requires held { g ≤ (head_of db.now).generation }
     ensures ranges { IfOk result (λ part. IsSegment part) }
-    ensures segment { (files : Files) → D.files store.old ≡ Some files → Reads (Segment g) (value_in segment (files (segment_file g))) result }
-    ensures reads { OnlyReads (D.files store.old) (D.files store.new) (D.moment store.old) (D.moment store.new) (D.left_since store.old) (D.left_since store.new) }
+    ensures segment { (files : Files) → D.files store.old ≡ Some files →
+        Reads (Segment g) (value_in segment (files (segment_file g))) result }
+    ensures reads { OnlyReads (D.files store.old) (D.files store.new) (D.moment store.old)
+        (D.moment store.new) (D.left_since store.old) (D.left_since store.new) }
     ensures cause { HasDbCause (D.faults store.old) (D.faults store.new) result }
     ensures origin { D.origin store.new ≡ D.origin store.old }
 {
@@ -106,9 +113,11 @@ fn read_row<R: Placed, D: Store>(
 ) -> Result<Profile, DbFault>
     requires order { IsOrder R.before R.same }
     requires rising { is_rising R.before rows.now ≡ true }
-    ensures profile { (files : Files) → D.files store.old ≡ Some files → ReadsRow R.file files (find (R.same place) rows.now) result }
+    ensures profile { (files : Files) → D.files store.old ≡ Some files →
+        ReadsRow R.file files (find (R.same place) rows.now) result }
     ensures absent { find (R.same place) rows.now ≡ None → result ≡ Ok [] }
-    ensures reads { OnlyReads (D.files store.old) (D.files store.new) (D.moment store.old) (D.moment store.new) (D.left_since store.old) (D.left_since store.new) }
+    ensures reads { OnlyReads (D.files store.old) (D.files store.new) (D.moment store.old)
+        (D.moment store.new) (D.left_since store.old) (D.left_since store.new) }
     ensures cause { HasDbCause (D.faults store.old) (D.faults store.new) result }
     ensures origin { D.origin store.new ≡ D.origin store.old }
 {
@@ -119,8 +128,10 @@ fn read_row<R: Placed, D: Store>(
 }
 
 fn profile_of<D: Store>(alloc: Global, store: &mut D, file: FileRef) -> Result<Profile, DbFault>
-    ensures profile { (files : Files) → D.files store.old ≡ Some files → Reads file (value_in format1 (files (file_name file))) result }
-    ensures reads { OnlyReads (D.files store.old) (D.files store.new) (D.moment store.old) (D.moment store.new) (D.left_since store.old) (D.left_since store.new) }
+    ensures profile { (files : Files) → D.files store.old ≡ Some files →
+        Reads file (value_in format1 (files (file_name file))) result }
+    ensures reads { OnlyReads (D.files store.old) (D.files store.new) (D.moment store.old)
+        (D.moment store.new) (D.left_since store.old) (D.left_since store.new) }
     ensures cause { HasDbCause (D.faults store.old) (D.faults store.new) result }
     ensures origin { D.origin store.new ≡ D.origin store.old }
 {
@@ -156,8 +167,10 @@ fn segment_in(alloc: Global, file: FileRef, bytes: &[u8]) -> Result<RunSegment, 
 
 /// The bytes of a file; `Bad` exactly where it is missing.
 pub fn read_file<D: Store>(alloc: Global, store: &mut D, file: FileRef) -> Result<Vec<u8>, DbFault>
-    ensures bytes { (files : Files) → D.files store.old ≡ Some files → ReadsAs contents file (files (file_name file)) result }
-    ensures reads { OnlyReads (D.files store.old) (D.files store.new) (D.moment store.old) (D.moment store.new) (D.left_since store.old) (D.left_since store.new) }
+    ensures bytes { (files : Files) → D.files store.old ≡ Some files →
+        ReadsAs contents file (files (file_name file)) result }
+    ensures reads { OnlyReads (D.files store.old) (D.files store.new) (D.moment store.old)
+        (D.moment store.new) (D.left_since store.old) (D.left_since store.new) }
     ensures cause { HasDbCause (D.faults store.old) (D.faults store.new) result }
     ensures origin { D.origin store.new ≡ D.origin store.old }
 {

@@ -2,7 +2,7 @@
 ghost use Rattle.std.specs.Prelude.{◌≡◌, OnOk};
 ghost use Rattle.store_io.specs.Files.{Files};
 ghost use Rattle.store_io.specs.Outcomes.{HasStoreCause, AfterSome, Told};
-ghost use Rattle.store_io.specs.Crashes.{Elapses};
+ghost use Rattle.store_io.specs.Crashes.{LeftNow, Passes};
 ghost use Rattle.epoch_store.specs.Puts.{PutAll, PutSome};
 
 use std::alloc::Global;
@@ -30,8 +30,10 @@ impl Model for Write {
 /// Makes the writes in their order, up to the first that fails.
 pub fn write_all<D: Store>(alloc: Global, store: &mut D, writes: &[Write]) -> Result<(), StoreError>
     ensures files { OnOk result (Told (PutAll writes.now) (D.files store.old) (D.files store.new)) }
-    ensures crash { OnOk result ((c : Files) → D.left_since store.new (D.moment store.new) c → AfterSome (D.left_since store.old (D.moment store.old)) (PutAll writes.now) c) }
-    ensures time { Elapses (D.moment store.old) (D.moment store.new) (D.left_since store.old) (D.left_since store.new) (AfterSome (D.left_since store.old (D.moment store.old)) (PutSome writes.now)) }
+    ensures crash { OnOk result ((c : Files) → LeftNow D.moment D.left_since store.new c →
+        AfterSome (LeftNow D.moment D.left_since store.old) (PutAll writes.now) c) }
+    ensures time { Passes D.moment D.left_since store.old store.new
+        (AfterSome (LeftNow D.moment D.left_since store.old) (PutSome writes.now)) }
     ensures cause { HasStoreCause (D.faults store.old) (D.faults store.new) result }
     ensures origin { D.origin store.new ≡ D.origin store.old }
 {

@@ -1,7 +1,7 @@
 -- The rows of the next head are those held and those added.
-use Rattle.std.proofs.Common.{rules, arith, ◌≡◌, ◌+◌, List, map, refl, ap, ◌∙◌}
+use Rattle.std.proofs.Common.{rules, arith, ◌≡◌, ◌+◌, refl, ap, ◌∙◌}
 use Rattle.database_state.specs.Heads.{row_count}
-use Rattle.database_state.specs.Updates.{KnownUpdate, UnknownUpdate, known_row_of, unknown_row_of, head_after}
+use Rattle.database_state.specs.Updates.{head_after}
 use Rattle.database_state.specs.Rows.{is_rising, known_before, unknown_before}
 use Rattle.head_file.proofs.Limits.{ranges_of}
 use Rattle.epoch_store.proofs.NextHead.{rows_after, known_rise, unknown_rise}
