@@ -46,7 +46,12 @@ impl Model for KnownFile {
 
     ghost Value = { KnownUpdate };
 
-    ghost view = { λ k. record { epoch = k.epoch; image = k.image; event = code_of k.event; rows = k.profile } };
+    ghost view = { λ k. record {
+      epoch = k.epoch;
+      image = k.image;
+      event = code_of k.event;
+      rows = k.profile;
+    } };
 }
 
 impl KnownFile {

@@ -38,7 +38,8 @@ pub fn commit<D: Store>(
     ensures files { OnOk result (FilesChanged change.now (head_of db.old) (head_of db.new)
         (D.files store.old) (D.files store.new)) }
     // They are those of before with the writes of the change, in their order, and an empty seal.
-    ensures writes { OnOk result (Told (AfterCommit (head_after change.now (head_of db.old)) change.now)
+    ensures writes { OnOk result
+        (Told (AfterCommit (head_after change.now (head_of db.old)) change.now)
         (D.files store.old) (D.files store.new)) }
     // No name of another generation changes.
     ensures others { OnOk result (Told (OthersStay ((head_of db.old).generation + 1))
@@ -47,14 +48,15 @@ pub fn commit<D: Store>(
     ensures told { OnOk result ((said : Said) →
         SaysWhereTold (D.files store.old) (head_of db.old) said →
         SaysWhereTold (D.files store.new) (head_of db.new) (updated change.now said)) }
-    ensures room { FindsRoom (row_count (head_of db.old)) (rows_added change.now (head_of db.old)) result }
+    ensures room { FindsRoom (row_count (head_of db.old)) (rows_added change.now (head_of db.old))
+        result }
     ensures untouched { IsUntouched store.old store.new result }
     ensures answer { KeepsFault (failed_of db.old) (failed_of db.new) result }
     ensures refused { OnErr result (head_of db.new ≡ head_of db.old) }
     // Each crash meanwhile leaves what a crash left before, with the first of the writes and one of them maybe torn.
     ensures steps { Passes D.moment D.left_since store.old store.new
         (AfterSome (LeftNow D.moment D.left_since store.old)
-            (InCommit (head_after change.now (head_of db.old)) change.now)) }
+        (InCommit (head_after change.now (head_of db.old)) change.now)) }
     // Where each crash at the start leaves the database, each crash since then leaves that database or the changed one.
     ensures any_moment { (said : Said) →
         CrashesSay (LeftNow D.moment D.left_since store.old) (head_of db.old) said →
@@ -66,7 +68,8 @@ pub fn commit<D: Store>(
     // And each crash after the end leaves the changed one.
     ensures after { OnOk result ((said : Said) →
         CrashesSay (LeftNow D.moment D.left_since store.old) (head_of db.old) said →
-        CrashesSay (LeftNow D.moment D.left_since store.new) (head_of db.new) (updated change.now said)) }
+        CrashesSay (LeftNow D.moment D.left_since store.new) (head_of db.new)
+        (updated change.now said)) }
     ensures cause { HasCommitCause (D.faults store.old) (D.faults store.new) result }
     ensures origin { D.origin store.new ≡ D.origin store.old }
 {
@@ -101,10 +104,10 @@ fn try_commit<D: Store>(
         (D.files store.old) (D.files store.new)) }
     ensures crash { OnOk result ((c : Files) → LeftNow D.moment D.left_since store.new c →
         AfterSome (LeftNow D.moment D.left_since store.old)
-            (AfterCommit (head_after change.now head.now) change.now) c) }
+        (AfterCommit (head_after change.now head.now) change.now) c) }
     ensures time { Passes D.moment D.left_since store.old store.new
         (AfterSome (LeftNow D.moment D.left_since store.old)
-            (InCommit (head_after change.now head.now) change.now)) }
+        (InCommit (head_after change.now head.now) change.now)) }
     ensures cause { HasWriteCause (D.faults store.old) (D.faults store.new) result }
     ensures origin { D.origin store.new ≡ D.origin store.old }
 {

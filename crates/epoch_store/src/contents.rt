@@ -62,7 +62,8 @@ fn put_profile(
     profile: &Profile,
 ) -> Result<(), AllocError>
     ensures { OnOk result ((bytes : List ℕ)
-        × (writes.new.items ≡ writes.old.items ++ record { name = file_name file; bytes = bytes } ∷ [])
+        × (writes.new.items
+        ≡ writes.old.items ++ record { name = file_name file; bytes = bytes } ∷ [])
         × Spells format1 bytes profile.now) }
 {
     let bytes = write_profile(alloc, profile)?;

@@ -12,7 +12,8 @@ pub fn count_before<R: Placed>(rows: &[R], place: R) -> usize
     requires rising { is_rising R.before rows.now ≡ true }
     ensures within { result ≤ length rows.now }
     ensures before { AllWithin (λ row. R.before row place ≡ true) rows.now 0 result }
-    ensures behind { AllWithin (λ row. R.before row place ≡ false) rows.now result (length rows.now) }
+    ensures behind { AllWithin (λ row. R.before row place ≡ false)
+        rows.now result (length rows.now) }
 {
     rows.partition_point(|row| row.is_before(place))
 }

@@ -37,7 +37,8 @@ pub fn read_known<D: Store>(
 ) -> Result<Profile, DbFault>
     ensures profile { (files : Files) → D.files store.old ≡ Some files →
         ReadsKnown files (known_row (head_of db.now).known epoch image (code_of event)) result }
-    ensures absent { known_row (head_of db.now).known epoch image (code_of event) ≡ None → result ≡ Ok [] }
+    ensures absent { known_row (head_of db.now).known epoch image (code_of event) ≡ None →
+        result ≡ Ok [] }
     ensures reads { OnlyReads (D.files store.old) (D.files store.new) (D.moment store.old)
         (D.moment store.new) (D.left_since store.old) (D.left_since store.new) }
     ensures cause { HasDbCause (D.faults store.old) (D.faults store.new) result }
@@ -64,7 +65,8 @@ pub fn read_unknown<D: Store>(
 ) -> Result<Profile, DbFault>
     ensures profile { (files : Files) → D.files store.old ≡ Some files →
         ReadsUnknown files (unknown_row (head_of db.now).unknown epoch (code_of event)) result }
-    ensures absent { unknown_row (head_of db.now).unknown epoch (code_of event) ≡ None → result ≡ Ok [] }
+    ensures absent { unknown_row (head_of db.now).unknown epoch (code_of event) ≡ None →
+        result ≡ Ok [] }
     ensures reads { OnlyReads (D.files store.old) (D.files store.new) (D.moment store.old)
         (D.moment store.new) (D.left_since store.old) (D.left_since store.new) }
     ensures cause { HasDbCause (D.faults store.old) (D.faults store.new) result }

@@ -9,7 +9,8 @@ ghost use Rattle.database_model.specs.ProfileForm.{format1};
 
 /// A profile has one spelling.
 pub fn profile_spelled_once()
-    ensures { (a b : List ℕ) (rows : List Row) → Spells format1 a rows → Spells format1 b rows → a ≡ b }
+    ensures { (a b : List ℕ) (rows : List Row) →
+        Spells format1 a rows → Spells format1 b rows → a ≡ b }
 {}
 
 /// No profile's spelling begins another's.
@@ -21,11 +22,13 @@ pub fn profile_begins_no_other()
 /// Rows are told by some bytes exactly where they are rows of a profile: by rising offset, each with a count from 1
 /// to 2^48.
 pub fn profiles_have_spellings()
-    ensures spelled { (rows : List Row) → AreRows rows → (bytes : List ℕ) × Spells format1 bytes rows }
+    ensures spelled { (rows : List Row) → AreRows rows →
+        (bytes : List ℕ) × Spells format1 bytes rows }
     ensures told { (bytes : List ℕ) (rows : List Row) → Spells format1 bytes rows → AreRows rows }
 {}
 
 /// What is read in the profiles' format are the rows of a profile, whatever the bytes.
 pub fn read_rows_rise()
-    ensures told { (bytes : List ℕ) (rows : List Row) → read_form format1 bytes ≡ Ok rows → AreRows rows }
+    ensures told { (bytes : List ℕ) (rows : List Row) →
+        read_form format1 bytes ≡ Ok rows → AreRows rows }
 {}

@@ -11,7 +11,9 @@ mod reading;
 mod writing;
 
 pub use database_model::ProfileRow;
-pub use laws::{profile_begins_no_other, profile_spelled_once, profiles_have_spellings, read_rows_rise};
+pub use laws::{
+    profile_begins_no_other, profile_spelled_once, profiles_have_spellings, read_rows_rise,
+};
 pub use profiles::Profile;
 pub use reading::read_profile;
 pub use var_bytes::FormError as ProfileError;

@@ -50,7 +50,8 @@ fn rows_of(
 ) -> Result<(Profile, usize), ProfileError>
     requires { at ≤ length bytes.now }
     ensures within { IfOk result (λ x. x.1 ≤ length bytes.now) }
-    ensures value { Gives (λ x. (x.0, x.1)) result (take_form (repeat next_row count []) bytes.now at) }
+    ensures value { Gives (λ x. (x.0, x.1)) result
+        (take_form (repeat next_row count []) bytes.now at) }
 {
     let mut profile = Profile::new(alloc);
     let mut at = at;

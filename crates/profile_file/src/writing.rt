@@ -24,7 +24,8 @@ pub fn write_profile(alloc: Global, p: &Profile) -> Result<Vec<u8>, AllocError>
 
 fn put_rows(out: &mut Vec<u8>, rows: &[ProfileRow]) -> Result<(), AllocError>
     requires { AreRows rows.now }
-    ensures { OnOk result (out.new.items ≡ out.old.items ++ spell (fields_after row_fields [] rows.now)) }
+    ensures { OnOk result (out.new.items
+        ≡ out.old.items ++ spell (fields_after row_fields [] rows.now)) }
 {
     let mut last: u64 = 0;
     for row in rows {

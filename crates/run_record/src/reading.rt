@@ -10,9 +10,7 @@ ghost use Rattle.var_bytes.specs.Answers.{Gives};
 ghost use Rattle.run_record.specs.Reading.{entries_at, note_at, drain_at, segment_at};
 
 use crate::reading_losses::{event_of, processors_of};
-use database_model::{
-    Drain, LAST_PART, LAST_POSITION, MOST_PROCESSORS, MOST_RECORDS, RunSegment,
-};
+use database_model::{Drain, LAST_PART, LAST_POSITION, MOST_PROCESSORS, MOST_RECORDS, RunSegment};
 use sample_key::{Batch, Entry, Event, Key, MOST_SAMPLES, Note};
 use std::alloc::Global;
 use var_bytes::{BadField, FormError as SegmentError, field};
@@ -136,7 +134,8 @@ fn entries_of(
 ) -> Result<(Vec<Entry>, Vec<bool>, usize), SegmentError>
     requires { at ≤ length bytes.now }
     ensures within { IfOk result (λ x. x.2 ≤ length bytes.now) }
-    ensures value { Gives (λ x. (x.0.items, x.1.items, x.2)) result (entries_at count bytes.now at) }
+    ensures value { Gives (λ x. (x.0.items, x.1.items, x.2)) result
+        (entries_at count bytes.now at) }
 {
     let mut entries = Vec::new(alloc);
     let mut known = Vec::new(alloc);

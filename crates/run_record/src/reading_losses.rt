@@ -70,7 +70,8 @@ fn losses_of(
 ) -> Result<(Vec<Loss>, usize), SegmentError>
     requires { at ≤ length bytes.now }
     ensures within { IfOk result (λ x. x.1 ≤ length bytes.now) }
-    ensures value { Gives (λ x. (x.0.items, x.1)) result (take_form (repeat next_loss count []) bytes.now at) }
+    ensures value { Gives (λ x. (x.0.items, x.1)) result
+        (take_form (repeat next_loss count []) bytes.now at) }
 {
     let mut losses = Vec::new(alloc);
     let mut at = at;

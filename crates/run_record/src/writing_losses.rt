@@ -49,7 +49,8 @@ fn put_processor(out: &mut Vec<u8>, losses: &[Loss]) -> Result<(), AllocError>
 
 fn put_losses(out: &mut Vec<u8>, losses: &[Loss]) -> Result<(), AllocError>
     requires { AreLosses losses.now }
-    ensures { OnOk result (Appends (repeat next_loss (length losses.now) []) out.old.items out.new.items losses.now) }
+    ensures { OnOk result (Appends (repeat next_loss (length losses.now) [])
+        out.old.items out.new.items losses.now) }
 {
     for loss in losses {
         let code = u64::from(loss.event.code());

@@ -65,7 +65,8 @@ pub fn field_but(
 /// there.
 pub fn put_numbers(out: &mut Vec<u8>, numbers: &[u64]) -> Result<(), AllocError>
     ensures ok { OnOk result (out.new.items ≡ out.old.items ++ spell numbers.now) }
-    ensures err { OnErr result ((count : ℕ) × (out.new.items ≡ out.old.items ++ spell (take count numbers.now))) }
+    ensures err { OnErr result ((count : ℕ)
+        × (out.new.items ≡ out.old.items ++ spell (take count numbers.now))) }
     ensures wide { All (λ n. n < 2 ^ 64) numbers.now }
 {
     for n in numbers {

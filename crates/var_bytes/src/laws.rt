@@ -40,7 +40,8 @@ pub fn exactly_one_answer<A>()
 /// Bytes tell a value exactly where they are the spellings, one after the other, of numbers that do.
 pub fn spelled_by_numbers<A>()
     ensures { (form : Form A) (bytes : List ℕ) (v : A) →
-        Spells form bytes v ↔ ((numbers : List ℕ) × Follows form numbers v [] × (bytes ≡ spell numbers)) }
+        Spells form bytes v
+        ↔ ((numbers : List ℕ) × Follows form numbers v [] × (bytes ≡ spell numbers)) }
 {}
 
 /// What is read from left to right follows from numbers, and where the elements are bytes it is what they spell.

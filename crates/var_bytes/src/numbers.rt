@@ -15,7 +15,8 @@ pub struct VarBad;
 /// Appends the spelling of a number: seven bits a byte, the lowest first, and 128 added to each byte but the last.
 /// After a refusal `out` is as before.
 pub fn put_number(out: &mut Vec<u8>, n: u64) -> Result<(), AllocError>
-    ensures { out.new.items ≡ (if is_ok result then out.old.items ++ number_bytes n else out.old.items) }
+    ensures { out.new.items
+        ≡ (if is_ok result then out.old.items ++ number_bytes n else out.old.items) }
 {
     let len = out.len();
     match push_groups(out, n) {
@@ -42,8 +43,10 @@ fn push_groups(out: &mut Vec<u8>, n: u64) -> Result<(), AllocError>
 
 /// Reads the number that the bytes begin with: the number, and how many bytes it takes. Bytes may follow it.
 pub fn take_number(bytes: &[u8]) -> Result<(u64, usize), VarBad>
-    ensures found { IfOk result (λ x. (x.1 ≤ length bytes.now) × (take x.1 bytes.now ≡ number_bytes x.0)) }
-    ensures bad { IfErr result (λ e. (n : ℕ) (more : List ℕ) → n < 2 ^ 64 → bytes.now ≡ number_bytes n ++ more → ⊥) }
+    ensures found { IfOk result (λ x. (x.1 ≤ length bytes.now)
+        × (take x.1 bytes.now ≡ number_bytes x.0)) }
+    ensures bad { IfErr result (λ e. (n : ℕ) (more : List ℕ) → n < 2 ^ 64 →
+        bytes.now ≡ number_bytes n ++ more → ⊥) }
 {
     number(bytes).ok_or(VarBad)
 }

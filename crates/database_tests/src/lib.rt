@@ -1,0 +1,15 @@
+//! Table tests of the crates on the profile database, together: segments and their tally, and commits over stores.
+//! The changes that the tests commit are made by functions that a benchmark takes too.
+#![tactic(auto)]
+
+mod changes;
+#[cfg(test)]
+mod commits;
+mod errors;
+#[cfg(test)]
+mod openings;
+#[cfg(test)]
+mod segments;
+
+pub use changes::{first_change, second_change};
+pub use errors::NoChange;
