@@ -21,7 +21,12 @@ impl Model for Drain {
 
     ghost Value = { Drained };
 
-    ghost view = { λ d. record { at = d.at; epoch = d.epoch; batch = d.batch; known = d.known.items } };
+    ghost view = { λ d. record {
+      at = d.at;
+      epoch = d.epoch;
+      batch = d.batch;
+      known = d.known.items;
+    } };
 }
 
 /// A part of a run, as one commit stores it.

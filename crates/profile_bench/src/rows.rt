@@ -1,3 +1,4 @@
+//! A profile of made rows, written and read, and what its reading counted.
 ghost use Rattle.std.specs.Prelude.{◌≡◌, length, IfOk};
 
 use profile_file::{Profile, ProfileRow};
