@@ -1,3 +1,4 @@
+pub mod Chains
 pub mod Exits
 pub mod FileTexts
 pub mod History

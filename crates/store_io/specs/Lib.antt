@@ -1,3 +1,4 @@
+pub mod Changes
 pub mod Crashes
 pub mod FileNames
 pub mod Files

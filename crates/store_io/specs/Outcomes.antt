@@ -47,3 +47,11 @@ pub record Leaves {T : Type 0} (step less : Files → Files → Type 0) (old new
   pub ok : OnOk result ((c : Files) → new c → AfterSome old step c)
   pub failed : IsErrOf result Failed → (c : Files) → new c → AfterSome old less c
   pub memory : IsErrOf result Memory → (c : Files) → new c → old c
+
+-- the files after a write of these bytes under a name
+abbrev pub Writes : {T : Type 0} → List ℕ → List ℕ → Option Files → Option Files → Result T StoreError → Type 0
+Writes name bytes old new result = Makes (Holds name (Some bytes)) (Torn name) old new result
+
+-- the files after a removal of a name
+abbrev pub Removes : {T : Type 0} → List ℕ → Option Files → Option Files → Result T StoreError → Type 0
+Removes name old new result = Makes (Holds name None) (MaybeRemoved name) old new result

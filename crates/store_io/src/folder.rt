@@ -1,4 +1,4 @@
-// A folder of the system as a store: the edge where the real files are.
+//! A folder of the system as a store: the edge where the real files are.
 
 use crate::errors::StoreError;
 use crate::order::names_among;
@@ -19,6 +19,7 @@ const ASIDE: &str = "new file";
 ///
 /// A write fills a file beside the others, brings it to the disk, renames it and brings the folder to the disk; so a
 /// name's bytes are never seen torn, and after `Ok` they are on the disk. A removal brings the folder to the disk too.
+/// `Memory` is answered only while the folder is as before the call.
 #[derive(Drop)]
 pub struct DirStore<'a, R> {
     rt: &'a R,
@@ -43,7 +44,22 @@ impl<'a, R: Files + AllocGlobal> DirStore<'a, R> {
         }
     }
 
-    /// What the system refused for want of memory is no fault of the store; any other error counts as one.
+    /// Brings a change of the folder to the disk. Whatever stops this is a fault, want of memory too, since the folder is
+    /// no longer as before the call.
+    fn sync_change(&mut self) -> Result<(), StoreError>
+        ensures cause { HasStoreCause (folder_faults self.old) (folder_faults self.new) result }
+    {
+        match sync_folder(self.rt, &self.path) {
+            Ok(()) => Ok(()),
+            Err(_) => {
+                self.faults = self.faults.saturating_add(1);
+                Err(StoreError::Failed)
+            }
+        }
+    }
+
+    /// What the system refused for want of memory, before it changed the folder, is no fault of the store; any other error
+    /// counts as one.
     fn refuse<T>(&mut self, fault: io::Error) -> Result<T, StoreError>
         ensures refused { IsErr result }
         ensures cause { HasStoreCause (folder_faults self.old) (folder_faults self.new) result }
@@ -75,6 +91,8 @@ impl<'a, R: Files + AllocGlobal + Clone + Drop> Store for DirStore<'a, R> {
 
     ghost present = { λ s f told. untold f told };
 
+    ghost lasting = { λ s t c earlier now. now };
+
     fn names(&mut self, alloc: Global) -> Result<Vec<Name>, StoreError> {
         match listing(alloc, self.rt, &self.path) {
             Ok(texts) => {
@@ -97,16 +115,17 @@ impl<'a, R: Files + AllocGlobal + Clone + Drop> Store for DirStore<'a, R> {
         let path = path_of(alloc, &self.path, name)?;
         let folder = &self.path;
         let aside = format!(in alloc; "{folder}/{ASIDE}")?;
-        match replace(self.rt, &self.path, &aside, &path, bytes) {
-            Ok(()) => Ok(()),
+        match replace(self.rt, &aside, &path, bytes) {
+            Ok(()) => self.sync_change(),
             Err(fault) => self.refuse(fault),
         }
     }
 
     fn remove(&mut self, alloc: Global, name: &Name) -> Result<(), StoreError> {
         let path = path_of(alloc, &self.path, name)?;
-        match remove_file(self.rt, &self.path, &path) {
-            Ok(()) => Ok(()),
+        match remove_file(self.rt, &path) {
+            Ok(true) => self.sync_change(),
+            Ok(false) => Ok(()),
             Err(fault) => self.refuse(fault),
         }
     }
@@ -144,25 +163,18 @@ fn read_file<R: Files + AllocGlobal>(rt: &R, path: &str) -> io::Result<Option<Ve
 }
 
 /// Fills the file aside, brings it to the disk, and puts it in the place of what stood at the path.
-fn replace<R: Files>(
-    rt: &R,
-    folder: &str,
-    aside: &str,
-    path: &str,
-    bytes: &[u8],
-) -> io::Result<()> {
+fn replace<R: Files>(rt: &R, aside: &str, path: &str, bytes: &[u8]) -> io::Result<()> {
     let mut file = fs::create(rt, aside)?;
     file.write_all(bytes)?;
     file.sync_all()?;
-    fs::rename(rt, aside, path)?;
-    sync_folder(rt, folder)
+    fs::rename(rt, aside, path)
 }
 
-/// Takes a file away; one that is not there is no error.
-fn remove_file<R: Files>(rt: &R, folder: &str, path: &str) -> io::Result<()> {
+/// Takes a file away, and says whether it was there.
+fn remove_file<R: Files>(rt: &R, path: &str) -> io::Result<bool> {
     match fs::remove_file(rt, path) {
-        Ok(()) => sync_folder(rt, folder),
-        Err(fault) if fault.kind() == io::ErrorKind::NotFound => Ok(()),
+        Ok(()) => Ok(true),
+        Err(fault) if fault.kind() == io::ErrorKind::NotFound => Ok(false),
         Err(fault) => Err(fault),
     }
 }

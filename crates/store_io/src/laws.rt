@@ -1,6 +1,7 @@
-// What holds of every store in memory.
+//! What holds of every store in memory.
 ghost use Rattle.std.specs.Prelude.{◌≡◌, true, Some};
 ghost use Rattle.store_io.specs.Files.{Files};
+ghost use Rattle.store_io.specs.Memory.{no_change_failed};
 
 use crate::memory::MemStore;
 use crate::store::Store;
@@ -12,9 +13,17 @@ pub fn stays_without_fault(store: &MemStore)
     let _ = store;
 }
 
-/// A crash now leaves the present files alone.
+/// Where no call failed, no write and no removal did.
+pub fn no_change_failed_without_fault(store: &MemStore)
+    ensures { ⟦<MemStore as Store>⟧.faults store.now ≡ 0 → no_change_failed store.now ≡ true }
+{
+    let _ = store;
+}
+
+/// Where no write and no removal has failed, a crash now leaves the present files alone. After a failure it may leave that
+/// name otherwise, until it is written or removed with `Ok`.
 pub fn crash_leaves_the_present(store: &MemStore)
-    ensures { (c : Files) → ⟦<MemStore as Store>⟧.left_since store.now (⟦<MemStore as Store>⟧.moment store.now) c → ⟦<MemStore as Store>⟧.files store.now ≡ Some c }
+    ensures { no_change_failed store.now ≡ true → (c : Files) → ⟦<MemStore as Store>⟧.left_since store.now (⟦<MemStore as Store>⟧.moment store.now) c → ⟦<MemStore as Store>⟧.files store.now ≡ Some c }
 {
     let _ = store;
 }

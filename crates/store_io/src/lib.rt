@@ -7,6 +7,7 @@
 
 mod changes;
 mod errors;
+mod fails;
 mod file_refs;
 mod folder;
 mod laws;
@@ -14,12 +15,11 @@ mod memory;
 mod order;
 mod steps;
 mod store;
-#[cfg(test)]
-mod tests;
 
 pub use errors::StoreError;
+pub use fails::{Left, StoreFail};
 pub use file_refs::{FileRef, name_of};
 pub use folder::DirStore;
-pub use laws::{crash_leaves_the_present, stays_without_fault};
-pub use memory::{Left, MemStore, StoreFail};
+pub use laws::{crash_leaves_the_present, no_change_failed_without_fault, stays_without_fault};
+pub use memory::MemStore;
 pub use store::Store;

@@ -1,12 +1,26 @@
-// What a store in memory remembers of each change.
+//! What a store in memory remembers of each write and removal: the name, and how it came out.
 
 use text_num::Name;
 
-/// A change of one name: from then on it has these bytes, or is absent. `removes` tells a removal from a write, since
-/// a crash during the one leaves less than during the other.
+/// How a write or a removal came out.
+#[derive(Drop)]
+pub enum Outcome {
+    /// The name was written with these bytes.
+    Written(Vec<u8>),
+    /// The write failed. These bytes stand under the name now, or none; after a crash it is absent, as before, or has any
+    /// bytes.
+    HalfWritten(Option<Vec<u8>>),
+    /// The name was removed.
+    Removed,
+    /// The removal failed. The name is absent now, or as before; after a crash it is either.
+    HalfRemoved { gone: bool },
+}
+
+/// A write or a removal of one name.
 #[derive(Drop)]
 pub struct Step {
+    /// The name that it changed.
     pub name: Name,
-    pub bytes: Option<Vec<u8>>,
-    pub removes: bool,
+    /// How it came out.
+    pub outcome: Outcome,
 }

@@ -1,7 +1,7 @@
 -- The changes that were passed over have other names.
 use Rattle.std.proofs.Common.{◌≡◌, ◌≤◌, length, take}
 use Rattle.store_io.specs.Files.{no_files}
-use Rattle.store_io.specs.Memory.{after_steps}
+use Rattle.store_io.specs.Changes.{after_steps}
 use Rattle.store_io.proofs.changes.find.Given as goal
 
 abbrev pub invariant-loop-left : goal.invariant-loop-left

@@ -1,60 +1,50 @@
 -- Each exit that added a change is what one change more makes of the files.
-use Rattle.std.proofs.Common.{◌≡◌, true, false, None, Some, ◌∙◌, sym, ap, refl, inl}
-use Rattle.store_io.specs.Files.{no_files}
-use Rattle.store_io.specs.Outcomes.{Torn, MaybeRemoved, Holds}
-use Rattle.store_io.specs.Memory.{after_steps, files_of, fails_of, changes_of, listed, left_bytes, unremoved_bytes, Adds}
-use Rattle.store_io.proofs.History.{added_files, written_time, removed_time, unremoved}
-use Rattle.store_io.proofs.Exits.{with_bytes, made_files, made_crash, failed_files, failed_crash, unremoved_is}
+use Rattle.std.proofs.Common.{◌≡◌, Some, ◌∙◌, sym, ap, refl}
+use Rattle.store_io.specs.Files.{no_files, with_file}
+use Rattle.store_io.specs.Changes.{after_steps, listed, left_bytes}
+use Rattle.store_io.specs.Memory.{files_of, fails_of}
+use Rattle.store_io.proofs.History.{added_files, added_time, added_whole, added_failed}
+use Rattle.store_io.proofs.Exits.{written_files, written_crash, written_torn, unwritten_files, unwritten_crash, unwritten_torn}
 use Rattle.store_io.proofs.memory.MemStoreStore.write.Goals as goal
 
+pub invariant_of-self-in-None-clause-whole : goal.invariant_of-self-in-None-clause-whole
+invariant_of-self-in-None-clause-whole c = λ none. c.add.ensures.whole refl ∙ c.args.self.now.whole none
+
 pub returns-in_ok-add-in-None-clause-files : goal.returns-in_ok-add-in-None-clause-files
-returns-in_ok-add-in-None-clause-files c =
-    let more : Adds c.args.self.now.changes.items c.add.new.changes.items c.args.name.now (Some c.args.bytes.now) false = with_bytes (ap Some c.in_ok-bytes-in-None.ensures.items) c.in_ok-add-in-None.ensures.added in
-    made_files (Torn c.args.name.now) more
+returns-in_ok-add-in-None-clause-files c = written_files c.in_ok-bytes-in-None.ensures.items c.in_ok-add-in-None.ensures.added
 
 pub returns-in_ok-add-in-None-clause-crash : goal.returns-in_ok-add-in-None-clause-crash
-returns-in_ok-add-in-None-clause-crash c =
-    let more : Adds c.args.self.now.changes.items c.add.new.changes.items c.args.name.now (Some c.args.bytes.now) false = with_bytes (ap Some c.in_ok-bytes-in-None.ensures.items) c.in_ok-add-in-None.ensures.added in
-    made_crash (Torn c.args.name.now) more
+returns-in_ok-add-in-None-clause-crash c = written_crash c.in_ok-bytes-in-None.ensures.items c.in_ok-add-in-None.ensures.added
 
 pub returns-in_ok-add-in-None-clause-time : goal.returns-in_ok-add-in-None-clause-time
-returns-in_ok-add-in-None-clause-time c =
-    let more : Adds c.args.self.now.changes.items c.add.new.changes.items c.args.name.now (Some c.args.bytes.now) false = with_bytes (ap Some c.in_ok-bytes-in-None.ensures.items) c.in_ok-add-in-None.ensures.added in
-    written_time more
+returns-in_ok-add-in-None-clause-time c = added_time c.in_ok-add-in-None.ensures.added
+
+pub returns-in_ok-add-in-None-clause-torn : goal.returns-in_ok-add-in-None-clause-torn
+returns-in_ok-add-in-None-clause-torn c = written_torn c.in_ok-add-in-None.ensures.added
+
+pub returns-in_ok-add-in-None-clause-failures : goal.returns-in_ok-add-in-None-clause-failures
+returns-in_ok-add-in-None-clause-failures c = record { ok = added_whole c.in_ok-add-in-None.ensures.added refl; failed = λ e. cc; memory = λ e. cc }
 
 pub returns-in_ok-add-in-Some-clause-files : goal.returns-in_ok-add-in-Some-clause-files
-returns-in_ok-add-in-Some-clause-files c =
-    let files = files_of c.args.self.now in
-    let name = c.args.name.now in
-    let left = c.in-Some.left.now in
-    let before = c.find-before.ensures ∙ ap (λ l. after_steps l no_files c.bytes.result.now) c.deref-in-Some.ensures.value ∙ ap files c.bytes.ensures.bytes in
-    let kept : Adds c.args.self.now.changes.items c.add-in-Some.new.changes.items name (left_bytes left (files name)) false = with_bytes (c.in_ok-bytes-in-Some.ensures ∙ ap (left_bytes left) before) c.in_ok-add-in-Some.ensures.added in
-    failed_files (Holds c.args.name.now (Some c.args.bytes.now)) (Torn c.args.name.now) kept ((left_bytes left (files name), added_files kept))
+returns-in_ok-add-in-Some-clause-files c = unwritten_files c.args.bytes.now c.in_ok-add-in-Some.ensures.added
 
 pub returns-in_ok-add-in-Some-clause-crash : goal.returns-in_ok-add-in-Some-clause-crash
-returns-in_ok-add-in-Some-clause-crash c =
-    let files = files_of c.args.self.now in
-    let name = c.args.name.now in
-    let left = c.in-Some.left.now in
-    let before = c.find-before.ensures ∙ ap (λ l. after_steps l no_files c.bytes.result.now) c.deref-in-Some.ensures.value ∙ ap files c.bytes.ensures.bytes in
-    let kept : Adds c.args.self.now.changes.items c.add-in-Some.new.changes.items name (left_bytes left (files name)) false = with_bytes (c.in_ok-bytes-in-Some.ensures ∙ ap (left_bytes left) before) c.in_ok-add-in-Some.ensures.added in
-    failed_crash (Holds c.args.name.now (Some c.args.bytes.now)) (Torn c.args.name.now) kept (λ d c same whole. (left_bytes left (files name), whole))
+returns-in_ok-add-in-Some-clause-crash c = unwritten_crash c.args.bytes.now c.in_ok-add-in-Some.ensures.added
 
 pub returns-in_ok-add-in-Some-clause-time : goal.returns-in_ok-add-in-Some-clause-time
-returns-in_ok-add-in-Some-clause-time c =
-    let files = files_of c.args.self.now in
-    let name = c.args.name.now in
-    let left = c.in-Some.left.now in
-    let before = c.find-before.ensures ∙ ap (λ l. after_steps l no_files c.bytes.result.now) c.deref-in-Some.ensures.value ∙ ap files c.bytes.ensures.bytes in
-    let kept : Adds c.args.self.now.changes.items c.add-in-Some.new.changes.items name (left_bytes left (files name)) false = with_bytes (c.in_ok-bytes-in-Some.ensures ∙ ap (left_bytes left) before) c.in_ok-add-in-Some.ensures.added in
-    written_time kept
+returns-in_ok-add-in-Some-clause-time c = added_time c.in_ok-add-in-Some.ensures.added
+
+pub returns-in_ok-add-in-Some-clause-torn : goal.returns-in_ok-add-in-Some-clause-torn
+returns-in_ok-add-in-Some-clause-torn c = unwritten_torn c.in_ok-add-in-Some.ensures.added
 
 pub returns-in_ok-add-in-Some-clause-left : goal.returns-in_ok-add-in-Some-clause-left
 returns-in_ok-add-in-Some-clause-left c =
     let files = files_of c.args.self.now in
-    let name = c.args.name.now in
     let left = c.in-Some.left.now in
     let before = c.find-before.ensures ∙ ap (λ l. after_steps l no_files c.bytes.result.now) c.deref-in-Some.ensures.value ∙ ap files c.bytes.ensures.bytes in
-    let kept : Adds c.args.self.now.changes.items c.add-in-Some.new.changes.items name (left_bytes left (files name)) false = with_bytes (c.in_ok-bytes-in-Some.ensures ∙ ap (left_bytes left) before) c.in_ok-add-in-Some.ensures.added in
+    let kept = c.in_ok-bytes-in-Some.ensures ∙ ap (left_bytes left) before in
     let is : listed (fails_of c.args.self.now) c.saturating_add-self.result ≡ Some left = sym (c.in-Some.ensures.left ∙ ap (λ l. listed l c.saturating_add-self.result) c.deref.ensures.value) in
-    λ e. rw is (added_files kept)
+    λ e. rw is (added_files c.in_ok-add-in-Some.ensures.added ∙ ap (λ b. with_file c.args.name.now b files) kept)
+
+pub returns-in_ok-add-in-Some-clause-failures : goal.returns-in_ok-add-in-Some-clause-failures
+returns-in_ok-add-in-Some-clause-failures c = record { ok = tt; failed = λ e. added_failed c.in_ok-add-in-Some.ensures.added refl; memory = λ e. cc }
