@@ -17,10 +17,10 @@ pub no_images : (names : List (List ℕ)) → names ≡ [] → AreImages names
 unfolding IsDistinct
 no_images names none = rw none (record { apart = tt; few = lit≤ tt })
 
-lt_true : (a b : ℕ) → a < b → nat_lt a b ≡ true
+pub lt_true : (a b : ℕ) → a < b → nat_lt a b ≡ true
 lt_true a b below = grind (arith, common_steps)
 
-lt_false : (a b : ℕ) → b ≤ a → nat_lt a b ≡ false
+pub lt_false : (a b : ℕ) → b ≤ a → nat_lt a b ≡ false
 lt_false a b above = grind (arith, common_steps)
 
 none_le : (a b : ℕ) → cond (nat_lt a b) (Some a) None ≡ None → b ≤ a

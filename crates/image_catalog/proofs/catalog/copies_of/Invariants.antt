@@ -1,0 +1,6 @@
+-- The names copied so far, and those that are left.
+use Rattle.std.proofs.Common.{◌≡◌, ◌++◌, drop}
+use Rattle.image_catalog.proofs.catalog.copies_of.Given as goal
+
+abbrev pub invariant-loop-name : goal.invariant-loop-name
+invariant-loop-name l = l.copies.items ++ drop l.name-index l.names ≡ l.names
