@@ -1,4 +1,4 @@
-// Reading a head: taking its text apart, and comparing it with the text of what was found.
+//! Reading a head: taking its text apart, and comparing it with the text of what was found.
 ghost use Rattle.std.specs.Prelude.{◌≡◌, ◌≢◌, ◌<◌, ◌≤◌, ◌++◌, ◌∷◌, [], List, ℕ, true, length, MatchOption, IfOk, OnOk};
 ghost use Rattle.std.specs.List.{list_all, flat_map, AllByRecursion};
 ghost use Rattle.text_num.specs.Names.{is_name};
@@ -6,11 +6,12 @@ ghost use Rattle.image_catalog.specs.Images.{AreImages};
 ghost use Rattle.database_state.specs.declared.rows.KnownRow.{KnownRow as Known};
 ghost use Rattle.database_state.specs.declared.rows.UnknownRow.{UnknownRow as Unknown};
 ghost use Rattle.head_file.specs.Words.{KnownFits, UnknownFits};
+ghost use Rattle.head_file.specs.declared.ranges.TheConstants.{MOST_ROWS};
 ghost use Rattle.database_state.specs.Heads as heads;
 ghost use Rattle.database_state.specs.Heads.{IsHead, head_text, name_line, known_line, unknown_line};
 
 use crate::heads::Head;
-use crate::ranges::is_in_range;
+use crate::ranges::{MOST_ROWS, is_in_range};
 use crate::words::{next_line, next_number, next_word};
 use crate::writing::write_head;
 use database_state::{KnownRow, UnknownRow};
@@ -62,15 +63,12 @@ fn taken_apart(alloc: Global, bytes: &[u8]) -> Result<Head, AllocError>
     })
 }
 
-/// The most lines of one kind; a text that asks for more is no head.
-const MOST_LINES: u32 = 65536;
-
 fn images_of(alloc: Global, text: &[u8], count: u32) -> Result<(Catalog, &[u8]), AllocError>
     ensures { IfOk result (λ found. (names : List (List ℕ)) (rest : List ℕ) → AreImages names → list_all is_name names ≡ true → length names ≡ count → text.now ≡ flat_map name_line names ++ rest → (found.0 ≡ names) × (found.1.now ≡ rest)) }
 {
     let mut catalog = Catalog::new(alloc);
     let mut rest = text;
-    for _ in 0..count.min(MOST_LINES) {
+    for _ in 0..count.min(MOST_ROWS) {
         let (word, more) = next_word(rest);
         add_image(alloc, &mut catalog, word)?;
         rest = more;
@@ -93,11 +91,11 @@ fn add_image(alloc: Global, catalog: &mut Catalog, word: &[u8]) -> Result<(), Al
 }
 
 fn known_of(alloc: Global, text: &[u8], count: u32) -> Result<(Vec<KnownRow>, &[u8]), AllocError>
-    ensures { IfOk result (λ found. (rows : List Known) (rest : List ℕ) → AllByRecursion KnownFits rows → length rows ≡ count → length rows ≤ 65536 → text.now ≡ flat_map known_line rows ++ rest → (found.0.items ≡ rows) × (found.1.now ≡ rest)) }
+    ensures { IfOk result (λ found. (rows : List Known) (rest : List ℕ) → AllByRecursion KnownFits rows → length rows ≡ count → length rows ≤ MOST_ROWS → text.now ≡ flat_map known_line rows ++ rest → (found.0.items ≡ rows) × (found.1.now ≡ rest)) }
 {
     let mut rows = Vec::new(alloc);
     let mut rest = text;
-    for _ in 0..count.min(MOST_LINES) {
+    for _ in 0..count.min(MOST_ROWS) {
         let (row, more) = known_row(rest);
         rows.push(row)?;
         rest = more;
@@ -125,11 +123,11 @@ fn known_row(text: &[u8]) -> (KnownRow, &[u8])
 }
 
 fn unknown_of(alloc: Global, text: &[u8], count: u32) -> Result<Vec<UnknownRow>, AllocError>
-    ensures { IfOk result (λ found. (rows : List Unknown) (rest : List ℕ) → AllByRecursion UnknownFits rows → length rows ≡ count → length rows ≤ 65536 → text.now ≡ flat_map unknown_line rows ++ rest → found.items ≡ rows) }
+    ensures { IfOk result (λ found. (rows : List Unknown) (rest : List ℕ) → AllByRecursion UnknownFits rows → length rows ≡ count → length rows ≤ MOST_ROWS → text.now ≡ flat_map unknown_line rows ++ rest → found.items ≡ rows) }
 {
     let mut rows = Vec::new(alloc);
     let mut rest = text;
-    for _ in 0..count.min(MOST_LINES) {
+    for _ in 0..count.min(MOST_ROWS) {
         let (row, more) = unknown_row(rest);
         rows.push(row)?;
         rest = more;

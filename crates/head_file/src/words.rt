@@ -1,4 +1,4 @@
-// Words and numbers of a text, from its front. What was written is read again; of other texts anything may be read.
+//! Words and numbers of a text, from its front. What was written is read again; of other texts anything may be read.
 ghost use Rattle.std.specs.Prelude.{◌≡◌, ℕ, ◌<◌, ◌≤◌, ◌^◌, ◌++◌, ◌∷◌, List, true, nat_le, position};
 ghost use Rattle.std.specs.Fmt.{decimal};
 ghost use Rattle.head_file.specs.Words.{is_word};

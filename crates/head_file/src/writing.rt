@@ -1,4 +1,4 @@
-// The text of a head.
+//! Writing a head: its text, line by line.
 ghost use Rattle.std.specs.Prelude.{◌≡◌, ◌++◌, ◌∷◌, [], true, length, IfOk, OnOk};
 ghost use Rattle.std.specs.List.{flat_map, list_all};
 ghost use Rattle.text_num.specs.Names.{is_name};
@@ -11,7 +11,7 @@ use database_state::{KnownRow, UnknownRow};
 use std::alloc::{AllocError, Global};
 use text_num::{Name, put_dec};
 
-/// The text of a head.
+///! Writing a head: its text, line by line.
 #[tactic(auto, unfolding(database_state::specs::Heads::head_text))]
 pub fn write_head(alloc: Global, head: &Head) -> Result<Vec<u8>, AllocError>
     ensures text { IfOk result (λ text. text.items ≡ head_text head.now) }
