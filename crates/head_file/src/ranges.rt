@@ -3,13 +3,10 @@ ghost use Rattle.std.specs.Prelude.{◌≡◌, ◌+◌, nat_le, length};
 ghost use Rattle.std.specs.List.{list_all};
 ghost use Rattle.database_state.specs.Rows.{is_known_row, is_unknown_row};
 ghost use Rattle.database_state.specs.Heads.{is_in_range};
-ghost use Rattle.head_file.specs.declared.ranges.TheConstants.{MOST_ROWS};
+ghost use Rattle.database_state.specs.declared.limits.TheConstants.{MOST_ROWS};
 
 use crate::heads::Head;
-use database_state::{KnownRow, UnknownRow, is_rising};
-
-/// The most rows of a head, its generations among them, since each has a segment.
-pub const MOST_ROWS: u32 = 65536;
+use database_state::{KnownRow, MOST_ROWS, UnknownRow, is_rising};
 
 /// Whether a head's numbers are in their ranges, and its rows few enough and in their order.
 pub fn is_in_range(head: &Head) -> bool
@@ -28,8 +25,7 @@ pub fn is_in_range(head: &Head) -> bool
 fn are_few(known: usize, unknown: usize, generation: u32) -> bool
     ensures { result ≡ nat_le (known + unknown + generation) MOST_ROWS }
 {
-    let most = MOST_ROWS as usize;
-    known <= most && unknown <= most && known + unknown + generation as usize <= most
+    known as u128 + unknown as u128 + u128::from(generation) <= MOST_ROWS
 }
 
 fn are_known_rows(rows: &[KnownRow], epoch: u32, images: usize, generation: u32) -> bool

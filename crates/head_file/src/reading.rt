@@ -6,15 +6,15 @@ ghost use Rattle.image_catalog.specs.Images.{AreImages};
 ghost use Rattle.database_state.specs.declared.rows.KnownRow.{KnownRow as Known};
 ghost use Rattle.database_state.specs.declared.rows.UnknownRow.{UnknownRow as Unknown};
 ghost use Rattle.head_file.specs.Words.{KnownFits, UnknownFits};
-ghost use Rattle.head_file.specs.declared.ranges.TheConstants.{MOST_ROWS};
+ghost use Rattle.database_state.specs.declared.limits.TheConstants.{MOST_ROWS};
 ghost use Rattle.database_state.specs.Heads as heads;
 ghost use Rattle.database_state.specs.Heads.{IsHead, head_text, name_line, known_line, unknown_line};
 
 use crate::heads::Head;
-use crate::ranges::{MOST_ROWS, is_in_range};
+use crate::ranges::is_in_range;
 use crate::words::{next_line, next_number, next_word};
 use crate::writing::write_head;
-use database_state::{KnownRow, UnknownRow};
+use database_state::{KnownRow, MOST_ROWS, UnknownRow};
 use image_catalog::{Catalog, CatalogError};
 use std::alloc::{AllocError, Global};
 use text_num::Name;
@@ -68,7 +68,7 @@ fn images_of(alloc: Global, text: &[u8], count: u32) -> Result<(Catalog, &[u8]),
 {
     let mut catalog = Catalog::new(alloc);
     let mut rest = text;
-    for _ in 0..count.min(MOST_ROWS) {
+    for _ in 0..u128::from(count).min(MOST_ROWS) {
         let (word, more) = next_word(rest);
         add_image(alloc, &mut catalog, word)?;
         rest = more;
@@ -95,7 +95,7 @@ fn known_of(alloc: Global, text: &[u8], count: u32) -> Result<(Vec<KnownRow>, &[
 {
     let mut rows = Vec::new(alloc);
     let mut rest = text;
-    for _ in 0..count.min(MOST_ROWS) {
+    for _ in 0..u128::from(count).min(MOST_ROWS) {
         let (row, more) = known_row(rest);
         rows.push(row)?;
         rest = more;
@@ -127,7 +127,7 @@ fn unknown_of(alloc: Global, text: &[u8], count: u32) -> Result<Vec<UnknownRow>,
 {
     let mut rows = Vec::new(alloc);
     let mut rest = text;
-    for _ in 0..count.min(MOST_ROWS) {
+    for _ in 0..u128::from(count).min(MOST_ROWS) {
         let (row, more) = unknown_row(rest);
         rows.push(row)?;
         rest = more;

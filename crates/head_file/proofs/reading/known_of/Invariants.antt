@@ -3,7 +3,7 @@ use Rattle.std.proofs.Common.{◌≡◌, ℕ, ◌≤◌, List, ◌++◌, length,
 use Rattle.std.specs.List.{flat_map, AllByRecursion}
 use Rattle.database_state.specs.declared.rows.KnownRow.{KnownRow as Row}
 use Rattle.database_state.specs.Heads.{known_line}
-use Rattle.head_file.specs.declared.ranges.TheConstants.{MOST_ROWS}
+use Rattle.database_state.specs.declared.limits.TheConstants.{MOST_ROWS}
 use Rattle.head_file.specs.Words.{KnownFits}
 use Rattle.head_file.proofs.reading.known_of.Given as goal
 
