@@ -41,7 +41,8 @@ pub fn read_head(alloc: Global, bytes: &[u8], generation: u32) -> Result<Option<
 
 /// What the words of a text say, if it is the text of a head.
 fn taken_apart(alloc: Global, bytes: &[u8]) -> Result<Head, AllocError>
-    ensures { IfOk result (λ found. (h : heads.Head) → IsHead h → bytes.now ≡ head_text h → found ≡ h) }
+    ensures { IfOk result (λ found. (h : heads.Head) → IsHead h → bytes.now ≡ head_text h →
+        found ≡ h) }
 {
     let (_format, text) = next_line(bytes);
     let (generation, text) = next_line(text);
@@ -64,7 +65,9 @@ fn taken_apart(alloc: Global, bytes: &[u8]) -> Result<Head, AllocError>
 }
 
 fn images_of(alloc: Global, text: &[u8], count: u32) -> Result<(Catalog, &[u8]), AllocError>
-    ensures { IfOk result (λ found. (names : List (List ℕ)) (rest : List ℕ) → AreImages names → list_all is_name names ≡ true → length names ≡ count → text.now ≡ flat_map name_line names ++ rest → (found.0 ≡ names) × (found.1.now ≡ rest)) }
+    ensures { IfOk result (λ found. (names : List (List ℕ)) (rest : List ℕ) → AreImages names →
+        list_all is_name names ≡ true → length names ≡ count →
+        text.now ≡ flat_map name_line names ++ rest → (found.0 ≡ names) × (found.1.now ≡ rest)) }
 {
     let mut catalog = Catalog::new(alloc);
     let mut rest = text;
@@ -78,7 +81,8 @@ fn images_of(alloc: Global, text: &[u8], count: u32) -> Result<(Catalog, &[u8]),
 
 /// Adds an image, where the word is a name and there is room.
 fn add_image(alloc: Global, catalog: &mut Catalog, word: &[u8]) -> Result<(), AllocError>
-    ensures { OnOk result (is_name word.now ≡ true → AreImages (catalog.old ++ word.now ∷ []) → catalog.new ≡ catalog.old ++ word.now ∷ []) }
+    ensures { OnOk result (is_name word.now ≡ true → AreImages (catalog.old ++ word.now ∷ []) →
+        catalog.new ≡ catalog.old ++ word.now ∷ []) }
 {
     match Name::of_bytes(alloc, word)? {
         None => Ok(()),
@@ -91,7 +95,10 @@ fn add_image(alloc: Global, catalog: &mut Catalog, word: &[u8]) -> Result<(), Al
 }
 
 fn known_of(alloc: Global, text: &[u8], count: u32) -> Result<(Vec<KnownRow>, &[u8]), AllocError>
-    ensures { IfOk result (λ found. (rows : List Known) (rest : List ℕ) → AllByRecursion KnownFits rows → length rows ≡ count → length rows ≤ MOST_ROWS → text.now ≡ flat_map known_line rows ++ rest → (found.0.items ≡ rows) × (found.1.now ≡ rest)) }
+    ensures { IfOk result (λ found. (rows : List Known) (rest : List ℕ) →
+        AllByRecursion KnownFits rows → length rows ≡ count → length rows ≤ MOST_ROWS →
+        text.now ≡ flat_map known_line rows ++ rest →
+        (found.0.items ≡ rows) × (found.1.now ≡ rest)) }
 {
     let mut rows = Vec::new(alloc);
     let mut rest = text;
@@ -104,7 +111,8 @@ fn known_of(alloc: Global, text: &[u8], count: u32) -> Result<(Vec<KnownRow>, &[
 }
 
 fn known_row(text: &[u8]) -> (KnownRow, &[u8])
-    ensures { (r : Known) (rest : List ℕ) → KnownFits r → text.now ≡ known_line r ++ rest → (result.0 ≡ r) × (result.1.now ≡ rest) }
+    ensures { (r : Known) (rest : List ℕ) → KnownFits r → text.now ≡ known_line r ++ rest →
+        (result.0 ≡ r) × (result.1.now ≡ rest) }
 {
     let (epoch, text) = next_number(text);
     let (image, text) = next_number(text);
@@ -123,7 +131,9 @@ fn known_row(text: &[u8]) -> (KnownRow, &[u8])
 }
 
 fn unknown_of(alloc: Global, text: &[u8], count: u32) -> Result<Vec<UnknownRow>, AllocError>
-    ensures { IfOk result (λ found. (rows : List Unknown) (rest : List ℕ) → AllByRecursion UnknownFits rows → length rows ≡ count → length rows ≤ MOST_ROWS → text.now ≡ flat_map unknown_line rows ++ rest → found.items ≡ rows) }
+    ensures { IfOk result (λ found. (rows : List Unknown) (rest : List ℕ) →
+        AllByRecursion UnknownFits rows → length rows ≡ count → length rows ≤ MOST_ROWS →
+        text.now ≡ flat_map unknown_line rows ++ rest → found.items ≡ rows) }
 {
     let mut rows = Vec::new(alloc);
     let mut rest = text;
@@ -136,7 +146,8 @@ fn unknown_of(alloc: Global, text: &[u8], count: u32) -> Result<Vec<UnknownRow>,
 }
 
 fn unknown_row(text: &[u8]) -> (UnknownRow, &[u8])
-    ensures { (r : Unknown) (rest : List ℕ) → UnknownFits r → text.now ≡ unknown_line r ++ rest → (result.0 ≡ r) × (result.1.now ≡ rest) }
+    ensures { (r : Unknown) (rest : List ℕ) → UnknownFits r → text.now ≡ unknown_line r ++ rest →
+        (result.0 ≡ r) × (result.1.now ≡ rest) }
 {
     let (epoch, text) = next_number(text);
     let (event, text) = next_number(text);

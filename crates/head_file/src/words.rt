@@ -7,7 +7,8 @@ use text_num::{one_spelling, read_dec};
 
 /// The first word, and what stands behind the blank or line feed that ends it.
 pub fn next_word(text: &[u8]) -> (&[u8], &[u8])
-    ensures { (word rest : List ℕ) (end : ℕ) → is_word word ≡ true → end ≤ 32 → text.now ≡ word ++ end ∷ rest → (result.0.now ≡ word) × (result.1.now ≡ rest) }
+    ensures { (word rest : List ℕ) (end : ℕ) → is_word word ≡ true → end ≤ 32 →
+        text.now ≡ word ++ end ∷ rest → (result.0.now ≡ word) × (result.1.now ≡ rest) }
 {
     match word_end(text) {
         Some(at) => (&text[..at], &text[at + 1..]),
@@ -24,7 +25,8 @@ fn word_end(text: &[u8]) -> Option<usize>
 
 /// The first number, and what stands behind the blank or line feed that ends it.
 pub fn next_number(text: &[u8]) -> (u32, &[u8])
-    ensures { (n : ℕ) (rest : List ℕ) (end : ℕ) → n < 2 ^ 32 → end ≤ 32 → text.now ≡ decimal n ++ end ∷ rest → (result.0 ≡ n) × (result.1.now ≡ rest) }
+    ensures { (n : ℕ) (rest : List ℕ) (end : ℕ) → n < 2 ^ 32 → end ≤ 32 →
+        text.now ≡ decimal n ++ end ∷ rest → (result.0 ≡ n) × (result.1.now ≡ rest) }
 {
     one_spelling();
     let (word, rest) = next_word(text);
@@ -33,7 +35,8 @@ pub fn next_number(text: &[u8]) -> (u32, &[u8])
 
 /// The number that the second word of a line is, and the next lines.
 pub fn next_line(text: &[u8]) -> (u32, &[u8])
-    ensures { (word rest : List ℕ) (n : ℕ) → is_word word ≡ true → n < 2 ^ 32 → text.now ≡ word ++ 32 ∷ (decimal n ++ 10 ∷ rest) → (result.0 ≡ n) × (result.1.now ≡ rest) }
+    ensures { (word rest : List ℕ) (n : ℕ) → is_word word ≡ true → n < 2 ^ 32 →
+        text.now ≡ word ++ 32 ∷ (decimal n ++ 10 ∷ rest) → (result.0 ≡ n) × (result.1.now ≡ rest) }
 {
     let (_word, text) = next_word(text);
     next_number(text)

@@ -91,7 +91,8 @@ impl Catalog {
     pub fn number_of(&mut self, alloc: Global, name: &Name) -> Result<u32, CatalogError>
         ensures names { IfOk result (λ _. self.new ≡ with_name self.old name.now) }
         ensures number { IfOk result (λ number. place_of name.now self.new ≡ Some number) }
-        ensures full { IsErrOf result CatalogError.Full ↔ ((place_of name.now self.old ≡ None) × (length self.old ≡ MOST_IMAGES)) }
+        ensures full { IsErrOf result CatalogError.Full ↔ ((place_of name.now self.old ≡ None) ×
+            (length self.old ≡ MOST_IMAGES)) }
         ensures refused { OnErr result (self.new ≡ self.old) }
     {
         let at = count_before(&self.names, &self.order, name.bytes());

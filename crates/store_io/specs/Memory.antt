@@ -19,6 +19,10 @@ changes_of s = s.changes.items
 abbrev pub files_of : MemStore → Files
 files_of s = after_steps s.changes.items no_files
 
+-- the files of a store, which it tells
+abbrev pub told_of : MemStore → Option Files
+told_of s = Some (files_of s)
+
 -- the clock of a store
 abbrev pub moment_of : MemStore → ℕ
 moment_of s = length s.changes.items

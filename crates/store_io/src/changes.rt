@@ -74,7 +74,8 @@ fn bytes_left(outcome: &Outcome) -> Option<&Vec<u8>>
 
 /// A copy of the bytes, where there are any.
 pub fn copy_of(alloc: Global, found: Option<&Vec<u8>>) -> Result<Option<Vec<u8>>, AllocError>
-    ensures { IfOk result (λ copy. option_map contents copy ≡ option_map (λ v. contents v.now) found.entry) }
+    ensures { IfOk result (λ copy. option_map contents copy ≡
+        option_map (λ v. contents v.now) found.entry) }
 {
     match found {
         None => Ok(None),
@@ -88,7 +89,8 @@ pub fn left_by_write(
     left: &Left,
     before: Option<&Vec<u8>>,
 ) -> Result<Option<Vec<u8>>, AllocError>
-    ensures { IfOk result (λ kept. option_map contents kept ≡ left_bytes left.now (option_map (λ v. contents v.now) before.entry)) }
+    ensures { IfOk result (λ kept. option_map contents kept ≡
+        left_bytes left.now (option_map (λ v. contents v.now) before.entry)) }
 {
     match left {
         Left::Absent => Ok(None),
@@ -117,7 +119,8 @@ pub fn add(
 ) -> Result<(), AllocError>
     ensures added { OnOk result (Adds changes.old.items changes.new.items name.now outcome) }
     ensures refused { OnErr result (changes.new.items ≡ changes.old.items) }
-    ensures whole { is_whole outcome ≡ true → are_whole changes.new.items ≡ are_whole changes.old.items }
+    ensures whole { is_whole outcome ≡ true →
+        are_whole changes.new.items ≡ are_whole changes.old.items }
 {
     let name = name.copy(alloc)?;
     changes.push(Step { name, outcome })?;
@@ -126,7 +129,8 @@ pub fn add(
 
 /// The names that are there.
 pub fn present_names(alloc: Global, changes: &[Step]) -> Result<BTreeSet<Vec<u8>>, AllocError>
-    ensures present { IfOk result (λ texts. Lists (Some (after_steps changes.now no_files)) (text_list texts)) }
+    ensures present { IfOk result (λ texts. Lists (Some (after_steps changes.now no_files))
+        (text_list texts)) }
     ensures names { IfOk result (λ texts. filter is_name (text_list texts) ≡ text_list texts) }
 {
     let mut texts = BTreeSet::new(alloc);
@@ -138,7 +142,8 @@ pub fn present_names(alloc: Global, changes: &[Step]) -> Result<BTreeSet<Vec<u8>
 
 /// Brings the names that are there up to date with a change.
 fn follow(alloc: Global, texts: &mut BTreeSet<Vec<u8>>, change: &Step) -> Result<(), AllocError>
-    ensures present { OnOk result ((files : Files) → Lists (Some files) (text_list texts.old) → Lists (Some (after_step change.now files)) (text_list texts.new)) }
+    ensures present { OnOk result ((files : Files) → Lists (Some files) (text_list texts.old) →
+        Lists (Some (after_step change.now files)) (text_list texts.new)) }
     ensures names { OnOk result (AreNames (text_list texts.old) → AreNames (text_list texts.new)) }
 {
     match &change.outcome {
@@ -152,7 +157,9 @@ fn follow(alloc: Global, texts: &mut BTreeSet<Vec<u8>>, change: &Step) -> Result
 }
 
 fn put_text(alloc: Global, texts: &mut BTreeSet<Vec<u8>>, name: &Name) -> Result<(), AllocError>
-    ensures listed { OnOk result ((n : List ℕ) → is_listed n (text_list texts.new) ≡ (bytes_eq name.now n || is_listed n (text_list texts.old))) }
+    ensures listed { OnOk result ((n : List ℕ) →
+        is_listed n (text_list texts.new) ≡
+        (bytes_eq name.now n || is_listed n (text_list texts.old))) }
     ensures names { OnOk result (AreNames (text_list texts.old) → AreNames (text_list texts.new)) }
 {
     texts.insert(Vec::from_slice(alloc, name.bytes())?)?;
@@ -160,7 +167,9 @@ fn put_text(alloc: Global, texts: &mut BTreeSet<Vec<u8>>, name: &Name) -> Result
 }
 
 fn take_text(texts: &mut BTreeSet<Vec<u8>>, name: &Name)
-    ensures listed { (n : List ℕ) → is_listed n (text_list texts.new) ≡ (not (bytes_eq name.now n) && is_listed n (text_list texts.old)) }
+    ensures listed { (n : List ℕ) →
+        is_listed n (text_list texts.new) ≡
+        (not (bytes_eq name.now n) && is_listed n (text_list texts.old)) }
     ensures names { AreNames (text_list texts.old) → AreNames (text_list texts.new) }
 {
     let _rising = texts.len();

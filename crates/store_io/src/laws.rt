@@ -8,7 +8,8 @@ use crate::store::Store;
 
 /// Where no call was listed, no call failed.
 pub fn stays_without_fault(store: &MemStore)
-    ensures { ⟦<MemStore as Store>⟧.origin store.now ≡ true → ⟦<MemStore as Store>⟧.faults store.now ≡ 0 }
+    ensures { ⟦<MemStore as Store>⟧.origin store.now ≡ true →
+        ⟦<MemStore as Store>⟧.faults store.now ≡ 0 }
 {
     let _ = store;
 }
@@ -23,7 +24,9 @@ pub fn no_change_failed_without_fault(store: &MemStore)
 /// Where no write and no removal has failed, a crash now leaves the present files alone. After a failure it may leave that
 /// name otherwise, until it is written or removed with `Ok`.
 pub fn crash_leaves_the_present(store: &MemStore)
-    ensures { no_change_failed store.now ≡ true → (c : Files) → ⟦<MemStore as Store>⟧.left_since store.now (⟦<MemStore as Store>⟧.moment store.now) c → ⟦<MemStore as Store>⟧.files store.now ≡ Some c }
+    ensures { no_change_failed store.now ≡ true → (c : Files) →
+        ⟦<MemStore as Store>⟧.left_since store.now (⟦<MemStore as Store>⟧.moment store.now) c →
+        ⟦<MemStore as Store>⟧.files store.now ≡ Some c }
 {
     let _ = store;
 }

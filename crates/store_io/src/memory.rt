@@ -49,14 +49,14 @@ impl Store for MemStore {
     ghost use Rattle.store_io.specs.Outcomes.{HasStoreCause, Torn, MaybeRemoved, Writes, Removes};
     ghost use Rattle.store_io.specs.Crashes.{LeftNow, LeavesNoMore, LeavesWritten, LeavesRemoved, Passes, PassesChange, Tears};
     ghost use Rattle.store_io.specs.Changes.{left_bytes, unremoved_bytes};
-    ghost use Rattle.store_io.specs.Memory.{changes_of, files_of, faults_of, moment_of, left_of, origin_of, IsCounted, FailsLeaving, RemembersFailure};
+    ghost use Rattle.store_io.specs.Memory.{changes_of, told_of, faults_of, moment_of, left_of, origin_of, IsCounted, FailsLeaving, RemembersFailure};
     ghost use Rattle.store_io.specs.Present.{present_files, left_lasts};
 
     type Origin = bool;
 
     ghost origin = { origin_of };
 
-    ghost files = { λ s. Some (files_of s) };
+    ghost files = { told_of };
 
     ghost faults = { faults_of };
 
@@ -70,10 +70,11 @@ impl Store for MemStore {
 
     fn names(&mut self, alloc: Global) -> Result<Vec<Name>, StoreError>
         ensures order { IfOk result (λ names. IsInByteOrder names.items) }
-        ensures names { IfOk result (λ names. Lists (Some (files_of self.old)) names.items) }
-        ensures files { Some (files_of self.new) ≡ Some (files_of self.old) }
+        ensures names { IfOk result (λ names. Lists (told_of self.old) names.items) }
+        ensures files { told_of self.new ≡ told_of self.old }
         ensures crash { LeavesNoMore moment_of left_of self.old self.new }
-        ensures time { Passes moment_of left_of self.old self.new (LeftNow moment_of left_of self.old) }
+        ensures time { Passes moment_of left_of self.old self.new
+            (LeftNow moment_of left_of self.old) }
         ensures cause { HasStoreCause (faults_of self.old) (faults_of self.new) result }
         ensures origin { origin_of self.new ≡ origin_of self.old }
         ensures counted { IsCounted self.old self.new result }
@@ -94,10 +95,11 @@ impl Store for MemStore {
     }
 
     fn read(&mut self, alloc: Global, name: &Name) -> Result<Option<Vec<u8>>, StoreError>
-        ensures found { IfOk result (Finds (Some (files_of self.old)) name.now) }
-        ensures files { Some (files_of self.new) ≡ Some (files_of self.old) }
+        ensures found { IfOk result (Finds (told_of self.old) name.now) }
+        ensures files { told_of self.new ≡ told_of self.old }
         ensures crash { LeavesNoMore moment_of left_of self.old self.new }
-        ensures time { Passes moment_of left_of self.old self.new (LeftNow moment_of left_of self.old) }
+        ensures time { Passes moment_of left_of self.old self.new
+            (LeftNow moment_of left_of self.old) }
         ensures cause { HasStoreCause (faults_of self.old) (faults_of self.new) result }
         ensures origin { origin_of self.new ≡ origin_of self.old }
         ensures counted { IsCounted self.old self.new result }
@@ -117,7 +119,7 @@ impl Store for MemStore {
     }
 
     fn write(&mut self, alloc: Global, name: &Name, bytes: &[u8]) -> Result<(), StoreError>
-        ensures files { Writes name.now bytes.now (Some (files_of self.old)) (Some (files_of self.new)) result }
+        ensures files { Writes name.now bytes.now (told_of self.old) (told_of self.new) result }
         ensures crash { LeavesWritten moment_of left_of name.now bytes.now self.old self.new result }
         ensures time { PassesChange moment_of left_of (Torn name.now) self.old self.new }
         ensures torn { Tears moment_of left_of (Torn name.now) self.old self.new result }
@@ -145,7 +147,7 @@ impl Store for MemStore {
     }
 
     fn remove(&mut self, alloc: Global, name: &Name) -> Result<(), StoreError>
-        ensures files { Removes name.now (Some (files_of self.old)) (Some (files_of self.new)) result }
+        ensures files { Removes name.now (told_of self.old) (told_of self.new) result }
         ensures crash { LeavesRemoved moment_of left_of name.now self.old self.new result }
         ensures time { PassesChange moment_of left_of (MaybeRemoved name.now) self.old self.new }
         ensures torn { Tears moment_of left_of (MaybeRemoved name.now) self.old self.new result }

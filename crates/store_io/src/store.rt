@@ -37,7 +37,8 @@ pub trait Store {
         ensures names { IfOk result (λ names. Lists (files self.old) names.items) }
         ensures files { files self.new ≡ files self.old }
         ensures crash { LeavesNoMore moment left_since self.old self.new }
-        ensures time { Passes moment left_since self.old self.new (LeftNow moment left_since self.old) }
+        ensures time { Passes moment left_since self.old self.new
+            (LeftNow moment left_since self.old) }
         ensures cause { HasStoreCause (faults self.old) (faults self.new) result }
         ensures origin { origin self.new ≡ origin self.old };
 
@@ -46,7 +47,8 @@ pub trait Store {
         ensures found { IfOk result (Finds (files self.old) name.now) }
         ensures files { files self.new ≡ files self.old }
         ensures crash { LeavesNoMore moment left_since self.old self.new }
-        ensures time { Passes moment left_since self.old self.new (LeftNow moment left_since self.old) }
+        ensures time { Passes moment left_since self.old self.new
+            (LeftNow moment left_since self.old) }
         ensures cause { HasStoreCause (faults self.old) (faults self.new) result }
         ensures origin { origin self.new ≡ origin self.old };
 
@@ -72,5 +74,6 @@ pub trait Store {
     ghost present: { (s : Self) (f : Files) → files s ≡ Some f → left_since s (moment s) f };
 
     // What a crash now leaves is among what a crash since an earlier moment leaves.
-    ghost lasting: { (s : Self) (t : ℕ) (c : Files) → t ≤ moment s → left_since s (moment s) c → left_since s t c };
+    ghost lasting: { (s : Self) (t : ℕ) (c : Files) → t ≤ moment s → left_since s (moment s) c →
+        left_since s t c };
 }
