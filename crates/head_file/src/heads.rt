@@ -26,5 +26,12 @@ impl Model for Head {
 
     ghost Value = { heads.Head };
 
-    ghost view = { λ h. record { generation = h.generation; epoch = h.epoch; runs = h.runs; names = h.catalog; known = h.known.items; unknown = h.unknown.items } };
+    ghost view = { λ h. record {
+      generation = h.generation;
+      epoch = h.epoch;
+      runs = h.runs;
+      names = h.catalog;
+      known = h.known.items;
+      unknown = h.unknown.items;
+    } };
 }

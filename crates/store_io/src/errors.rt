@@ -1,4 +1,4 @@
-// The error of a store's calls.
+//! The error of a store's calls.
 ghost use Rattle.store_io.specs.declared.errors.StoreError.TheVariants.{Memory};
 
 use std::alloc::{AllocError, AllocFailed};

@@ -1,4 +1,4 @@
-// The files of a database and their names.
+//! The files of a database and their names.
 ghost use Rattle.std.specs.Prelude.{◌≡◌, true, IfOk, string_bytes};
 ghost use Rattle.text_num.specs.Names.{is_name};
 ghost use Rattle.store_io.specs.FileNames.{file_name};

@@ -1,4 +1,4 @@
-// The names among some texts, in byte order.
+//! The names among some texts, in byte order.
 ghost use Rattle.std.specs.Prelude.{◌≡◌, map, filter, IfOk};
 ghost use Rattle.store_io.specs.Files.{contents};
 ghost use Rattle.store_io.specs.Listing.{IsInByteOrder};
