@@ -11,8 +11,7 @@ pub fn count_before(names: &[Name], order: &[u32], name: &[u8]) -> usize
     requires rising { Rises names.now order.now }
     ensures within { result ≤ length order.now }
     ensures before { AllWithin (λ k. comes_before names.now k name.now ≡ true) order.now 0 result }
-    ensures behind {
-        AllWithin (λ k. comes_before names.now k name.now ≡ false) order.now result (length order.now) }
+    ensures behind { AllWithin (λ k. comes_before names.now k name.now ≡ false) order.now result (length order.now) }
 {
     order.partition_point(|number| comes_before(names, *number, name))
 }
@@ -22,8 +21,7 @@ pub fn number_at(names: &[Name], order: &[u32], at: usize, name: &[u8]) -> Optio
     requires rising { Rises names.now order.now }
     requires within { at ≤ length order.now }
     requires before { AllWithin (λ k. comes_before names.now k name.now ≡ true) order.now 0 at }
-    requires behind {
-        AllWithin (λ k. comes_before names.now k name.now ≡ false) order.now at (length order.now) }
+    requires behind { AllWithin (λ k. comes_before names.now k name.now ≡ false) order.now at (length order.now) }
     ensures { result ≡ find (λ k. bytes_eq (text_at names.now k) name.now) order.now }
 {
     if at >= order.len() {
