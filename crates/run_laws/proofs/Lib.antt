@@ -1,3 +1,6 @@
 pub mod Basics
 pub mod Owed
+pub mod Driven
 pub mod Lanes
+pub mod Turning
+pub mod Draining

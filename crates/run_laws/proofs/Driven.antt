@@ -1,0 +1,10 @@
+-- The laws of a driver that the laws of a run rest on.
+use Rattle.driver_laws.specs.Turns.{StartKeeps, TurnKeeps, PollsKeep, BellIsHeard}
+use Rattle.driver_laws.specs.Doings.{TurnDid, TurnGoesOn, TurnGetsOn}
+
+pub record DriverLaws : Type 0 where
+  pub start : StartKeeps
+  pub turn : TurnKeeps
+  pub polls : PollsKeep
+  pub heard : BellIsHeard
+  pub did : TurnDid
