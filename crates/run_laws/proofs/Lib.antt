@@ -4,3 +4,5 @@ pub mod Driven
 pub mod Lanes
 pub mod Turning
 pub mod Draining
+pub mod Keeping
+pub mod Systems
