@@ -6,3 +6,4 @@ pub mod Turning
 pub mod Draining
 pub mod Keeping
 pub mod Systems
+pub mod Endings
