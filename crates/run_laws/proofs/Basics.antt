@@ -12,12 +12,12 @@ use Rattle.driver_model.specs.Handover.{last_from, rung_of, NeverFallsFrom, WasR
 pub both_answers : {A : Type 0} (b : Bool) → b ≡ true → b ≡ false → A
 both_answers b is not = cc
 
--- a lower number is not this one
-pub eqb_below : (x y : ℕ) → x < y → eqb x y ≡ false
-eqb_below x y below = differ (eqb x y) refl
+-- numbers that differ are not equal
+pub eqb_apart : (x y : ℕ) → (x ≡ y → ⊥) → eqb x y ≡ false
+eqb_apart x y apart = differ (eqb x y) refl
   where
     differ : (t : Bool) → eqb x y ≡ t → eqb x y ≡ false
-    differ true e = absurd (omega (arith, eqb-true x y e))
+    differ true e = absurd (apart (eqb-true x y e))
     differ false e = e
 
 -- the first elements, one more

@@ -51,12 +51,12 @@ lane_drained0 polls pace trace cpu at asking first second third processor word d
         free2 = holds.idle.free2;
         given = ap (λ (g : Option Given). given_buffer g 0) holds.idle.given
             ∙ ap {B = Option Given} (λ (n : ℕ). Some (record { first = n; second = length far.second.taken; third = length far.third.taken }))
-              (sym (length-append far.first.taken (drain.batch ∷ [])));
+            (sym (length-append far.first.taken (drain.batch ∷ [])));
       };
       bell = holds.bell;
       cell0 = cell_drained cpu 0 at (stream_of cpu trace) side.first.handed far.first.taken (is_active driver.pair 0) first drain waits here
           (ripe (stream_of cpu trace) asking at side.heard driver.at side.first.handed far.first.taken drain.batch waits
-              holds.lane.in_range.upto0 holds.bell.behind holds.lane.in_range.at) holds.cell0;
+          holds.lane.in_range.upto0 holds.bell.behind holds.lane.in_range.at) holds.cell0;
       cell1 = holds.cell1;
       cell2 = holds.cell2;
       answering = holds.answering;
@@ -86,13 +86,13 @@ lane_drained1 polls pace trace cpu at asking first second third processor word d
         free2 = holds.idle.free2;
         given = ap (λ (g : Option Given). given_buffer g 1) holds.idle.given
             ∙ ap {B = Option Given} (λ (n : ℕ). Some (record { first = length far.first.taken; second = n; third = length far.third.taken }))
-              (sym (length-append far.second.taken (drain.batch ∷ [])));
+            (sym (length-append far.second.taken (drain.batch ∷ [])));
       };
       bell = holds.bell;
       cell0 = holds.cell0;
       cell1 = cell_drained cpu 1 at (stream_of cpu trace) side.second.handed far.second.taken (is_active driver.pair 1) second drain waits here
           (ripe (stream_of cpu trace) asking at side.heard driver.at side.second.handed far.second.taken drain.batch waits
-              holds.lane.in_range.upto1 holds.bell.behind holds.lane.in_range.at) holds.cell1;
+          holds.lane.in_range.upto1 holds.bell.behind holds.lane.in_range.at) holds.cell1;
       cell2 = holds.cell2;
       answering = holds.answering;
       in_time = timely_second at first second third drain here holds.settled holds.in_time;
@@ -137,14 +137,14 @@ lane_drained2 polls pace trace cpu at asking first second third processor word d
         free2 = refl;
         given = ap (λ (g : Option Given). given_table g) holds.idle.given
             ∙ ap {B = Option Given} (λ (n : ℕ). Some (record { first = length far.first.taken; second = length far.second.taken; third = n }))
-              (sym (length-append far.third.taken (drain.batch ∷ [])));
+            (sym (length-append far.third.taken (drain.batch ∷ [])));
       };
       bell = holds.bell;
       cell0 = holds.cell0;
       cell1 = holds.cell1;
       cell2 = cell_drained cpu 2 at (stream_of cpu trace) side.third.handed far.third.taken (is_some driver.table) third drain waits here
           (ripe (stream_of cpu trace) asking at side.heard driver.at side.third.handed far.third.taken drain.batch waits
-              holds.lane.in_range.upto2 holds.bell.behind holds.lane.in_range.at) holds.cell2;
+          holds.lane.in_range.upto2 holds.bell.behind holds.lane.in_range.at) holds.cell2;
       answering = answering_drained pace (records_in trace) at asking side.third.handed far.third.taken drain.batch waits holds.answering;
       in_time = all_push (IsTakenInTime first second) third drain holds.in_time (record {
         now = table_answers pace (records_in trace) at asking side.third.handed far.third.taken drain.batch waits holds.answering
@@ -214,8 +214,8 @@ rung_more value next rungs heard on bell = record {
   behind = omega (arith, bell.behind);
   rising = never_push 0 rungs next bell.rising (omega (arith, bell.last));
   known = elim bell.known as (λ z. WasRung heard (rungs ++ next ∷ [])) [
-    inl none ↦ inl none
-  | inr some ↦ inr (some_push (λ x. x ≡ heard) rungs next some)
+    | inl none ↦ inl none
+    | inr some ↦ inr (some_push (λ x. x ≡ heard) rungs next some)
   ];
 }
 
@@ -284,7 +284,7 @@ lane_moved polls pace trace cpu at notice first second third processor there nee
     lane_moves polls pace trace cpu at false first second third processor
     (holds.answering.0 ∙ sym (asked_same pace records at notice there need), holds.answering.1)
     (all_map (λ t. t.batch.note.answers < flush_before at) (λ t. t.batch.note.answers ≡ flush_before at → IsReached (length first) (length second) t)
-        (λ t low same. absurd (omega arith)) third below) holds
+    (λ t low same. absurd (omega arith)) third below) holds
 
 -- where a flush is complete, it was answered, and all of the table's batches were taken
 pub flush_answered : (pace : Pace) (records : List Record) (at : ℕ) (handed taken : List Sent) (far : FarSide) → IsFront taken handed
@@ -292,14 +292,14 @@ pub flush_answered : (pace : Pace) (records : List Record) (at : ℕ) (handed ta
     → (AnsweredNow pace records at handed) × (taken ≡ handed)
 flush_answered pace records at handed taken far front flushed (inl all) =
     absurd (unreached (flush_before at) taken far
-        (subst (λ (z : List ℕ). AllOf (λ x. x < flush_before at) z) (sym (ap {B = List ℕ} (λ (z : List Sent). answers_of z) all.1 ∙ all.0)) (asked_below pace records at)) flushed)
+    (subst (λ (z : List ℕ). AllOf (λ x. x < flush_before at) z) (sym (ap {B = List ℕ} (λ (z : List Sent). answers_of z) all.1 ∙ all.0)) (asked_below pace records at)) flushed)
 flush_answered pace records at handed taken far (inl same) flushed (inr now) = (now, same)
 flush_answered pace records at handed taken far (inr (batch, waits)) flushed (inr now) =
     let answers : answers_of taken ≡ asked_before pace records at =
     front_same (answers_of taken) (asked_before pace records at) batch.note.answers (flush_before at)
     (sym (map-append (λ (b : Sent). b.note.answers) taken (batch ∷ [])) ∙ ap {B = List ℕ} (λ (z : List Sent). answers_of z) (sym waits) ∙ now) in
     absurd (unreached (flush_before at) taken far
-        (subst (λ (z : List ℕ). AllOf (λ x. x < flush_before at) z) (sym answers) (asked_below pace records at)) flushed)
+    (subst (λ (z : List ℕ). AllOf (λ x. x < flush_before at) z) (sym answers) (asked_below pace records at)) flushed)
 
 -- both parts of a test
 pub both_parts : (x y : Bool) → (x && y) ≡ true → (x ≡ true) × (y ≡ true)
@@ -322,9 +322,10 @@ flush_reaches value low far first second third below same0 same1 same2 answers f
     (subst (λ (z : List Sent). AllOf (λ b. b.note.answers ≡ value → reaches far (Some b) ≡ true) z) (sym same2) found) in
     all_map (λ t. t.batch.note.answers ≡ value → reaches far (Some t.batch) ≡ true)
     (λ t. t.batch.note.answers ≡ value → IsReached (length first) (length second) t)
-    (λ t h same. let r = both_parts (leb t.batch.note.sent0 (length far.first.taken)) (leb t.batch.note.sent1 (length far.second.taken)) (h same) in
-        (omega (arith, leb-true t.batch.note.sent0 (length far.first.taken) r.0, drained_length first far.first.taken same0),
-            omega (arith, leb-true t.batch.note.sent1 (length far.second.taken) r.1, drained_length second far.second.taken same1))) third drained
+    (λ t h same. let r = both_parts (leb t.batch.note.sent0 (length far.first.taken)) (leb t.batch.note.sent1 (length far.second.taken)) (h same) in (
+      omega (arith, leb-true t.batch.note.sent0 (length far.first.taken) r.0, drained_length first far.first.taken same0),
+      omega (arith, leb-true t.batch.note.sent1 (length far.second.taken) r.1, drained_length second far.second.taken same1),
+    )) third drained
 
 -- the flush before the next record is complete
 pub lane_settled : PollsKeep → (pace : Pace) (trace : Recording) (cpu at : ℕ) (notice : Record) (first second third : List Drained) (processor : Processor)
@@ -340,4 +341,4 @@ lane_settled polls pace trace cpu at notice first second third processor there n
     lane_moves polls pace trace cpu at true first second third processor
     (answered.0 ∙ sym (asked_more pace records at notice there need), answered.1)
     (flush_reaches (flush_before at) (asked_before pace records at) far first second third (asked_below pace records at)
-        holds.cell0.same holds.cell1.same holds.cell2.same answers flushed) holds
+    holds.cell0.same holds.cell1.same holds.cell2.same answers flushed) holds

@@ -23,7 +23,7 @@ use Rattle.driver_model.specs.Driver.{Setup, Driver}
 use Rattle.driver_model.specs.Invariant.{DriverInvariant, IsAtEnd, InOrder, FullOrCut, IsWholeFlush, IsExplained, handed_weight, handed_upto, table_entries, active_entries, entries_of, last_answer}
 use Rattle.driver_model.specs.declared.plans.Stats.{Stats}
 use Rattle.driver_laws.proofs.Lists.{all_map, all_last, each_map}
-use Rattle.driver_laws.proofs.Weights.{batched-push, upto_push}
+use Rattle.driver_laws.proofs.Weights.{upto_le, below_le}
 use Rattle.database_model.specs.Runs.{Drained, Recorded}
 use Rattle.run_model.specs.Daemon.{flush_before, is_flushed, reaches}
 use Rattle.run_model.specs.Running.{Processor, System, setup_of, record_of}
@@ -56,20 +56,6 @@ times_more key (suc count) zero samples h = absurd (omega arith)
 times_more key (suc count) (suc more) [] h = omega arith
 times_more key (suc count) (suc more) (s ∷ samples) h = let r : count ≤ more = omega arith in omega (arith, times_more key count more samples r)
 
--- batches up to a number of samples are among all
-pub upto_all : (key : Key) (count : ℕ) (batches : List Sent) → batched_upto key count batches ≤ batched key batches
-upto_all key count [] = omega arith
-upto_all key count (b ∷ bs) =
-    cond_both (leb b.note.upto count) (weight key b.entries) 0 (λ (n : ℕ). n + batched_upto key count bs ≤ batched key (b ∷ bs))
-    (λ e. omega (arith, upto_all key count bs)) (λ e. omega (arith, upto_all key count bs))
-
-pub below_all_lost : (key : Key) (count : ℕ) (samples : List Marked) (losses : List Loss) → lost_below key count samples losses ≤ lost key samples losses
-below_all_lost key count samples [] = omega arith
-below_all_lost key count samples (l ∷ ls) =
-    cond_both (ltb l.index count) (once_at key (slice_get samples l.index)) 0
-    (λ (n : ℕ). n + lost_below key count samples ls ≤ lost key samples (l ∷ ls))
-    (λ e. omega (arith, below_all_lost key count samples ls)) (λ e. omega (arith, below_all_lost key count samples ls))
-
 -- a longer list of batches counts no less
 batched_more : (key : Key) (batches : List Sent) (batch : Sent) → batched key batches ≤ batched key (batches ++ batch ∷ [])
 batched_more key [] batch = omega arith
@@ -93,7 +79,7 @@ each_front : {A : Type 0} (P : List A → A → Type 0) (done xs : List A) (y : 
 each_front P done [] y h = tt
 each_front P done (x ∷ xs) y h = (h.0, each_front P (done ++ x ∷ []) xs y h.1)
 
-all_front : {A : Type 0} (P : A → Type 0) (xs : List A) (y : A) → AllOf P (xs ++ y ∷ []) → AllOf P xs
+pub all_front : {A : Type 0} (P : A → Type 0) (xs : List A) (y : A) → AllOf P (xs ++ y ∷ []) → AllOf P xs
 all_front P [] y h = tt
 all_front P (x ∷ xs) y h = (h.0, all_front P xs y h.1)
 
@@ -102,7 +88,7 @@ order_front taken handed (inl e) h = subst (λ (z : List Sent). InOrder z) (sym 
 order_front taken handed (inr (batch, e)) h =
     each_front (λ done b. (b.note.number ≡ length done + 1) × AllOf (λ a. a.note.upto ≤ b.note.upto) done) [] taken batch (subst (λ (z : List Sent). InOrder z) e h)
 
-facts_front : (P : Sent → Type 0) (taken handed : List Sent) → IsFront taken handed → AllOf P handed → AllOf P taken
+pub facts_front : (P : Sent → Type 0) (taken handed : List Sent) → IsFront taken handed → AllOf P handed → AllOf P taken
 facts_front P taken handed (inl e) h = subst (λ (z : List Sent). AllOf P z) (sym e) h
 facts_front P taken handed (inr (batch, e)) h = all_front P taken batch (subst (λ (z : List Sent). AllOf P z) e h)
 
@@ -123,8 +109,15 @@ bounded_all setup driver side count key lane =
     (λ (z : Unit {0}). handed_upto key count side + lost_below key count setup.samples driver.losses ≤ times key (take count setup.samples))
     (λ e. lane.bounded count key (leb-true count driver.at e))
     (λ e. let more : driver.at < count = leb-false count driver.at e in
-        omega (arith, lane.conserved key, times_more key driver.at count setup.samples (omega arith), upto_all key count side.first.handed,
-            upto_all key count side.second.handed, upto_all key count side.third.handed, below_all_lost key count setup.samples driver.losses))
+    omega (
+      arith,
+      lane.conserved key,
+      times_more key driver.at count setup.samples (omega arith),
+      upto_le key count side.first.handed,
+      upto_le key count side.second.handed,
+      upto_le key count side.third.handed,
+      below_le key count setup.samples driver.losses,
+    ))
 
 -- the table batches taken so far answer the first values that are owed
 answers_so_far : (pace : Pace) (records : List Record) (at : ℕ) (asking : Bool) (handed taken : List Sent) → at ≤ length records
@@ -178,13 +171,13 @@ partial_lane pace trace cpu at asking first second third processor within need h
         order2 = subst (λ (z : List Sent). InOrder z) (sym holds.cell2.same) (order_front far.third.taken side.third.handed front2 holds.lane.well_formed.order2);
         sizes0 = drained_facts (λ b. (1 ≤ length b.entries) × (length b.entries ≤ trace.buffer)) first far.first.taken holds.cell0.same
             (facts_front (λ b. (1 ≤ length b.entries) × (length b.entries ≤ trace.buffer)) far.first.taken side.first.handed front0
-                (all_map (FullOrCut 0 trace.buffer side.third.handed) (λ b. (1 ≤ length b.entries) × (length b.entries ≤ trace.buffer)) (λ b h. (h.0, h.1)) side.first.handed holds.lane.well_formed.sizes0));
+            (all_map (FullOrCut 0 trace.buffer side.third.handed) (λ b. (1 ≤ length b.entries) × (length b.entries ≤ trace.buffer)) (λ b h. (h.0, h.1)) side.first.handed holds.lane.well_formed.sizes0));
         sizes1 = drained_facts (λ b. (1 ≤ length b.entries) × (length b.entries ≤ trace.buffer)) second far.second.taken holds.cell1.same
             (facts_front (λ b. (1 ≤ length b.entries) × (length b.entries ≤ trace.buffer)) far.second.taken side.second.handed front1
-                (all_map (FullOrCut 1 trace.buffer side.third.handed) (λ b. (1 ≤ length b.entries) × (length b.entries ≤ trace.buffer)) (λ b h. (h.0, h.1)) side.second.handed holds.lane.well_formed.sizes1));
+            (all_map (FullOrCut 1 trace.buffer side.third.handed) (λ b. (1 ≤ length b.entries) × (length b.entries ≤ trace.buffer)) (λ b h. (h.0, h.1)) side.second.handed holds.lane.well_formed.sizes1));
         tables = drained_facts (λ b. FitsTable trace.buckets b.entries) third far.third.taken holds.cell2.same
             (facts_front (λ b. FitsTable trace.buckets b.entries) far.third.taken side.third.handed front2
-                (subst (λ (n : ℕ). AllOf (λ b. FitsTable n b.entries) side.third.handed) holds.buckets holds.lane.well_formed.tables));
+            (subst (λ (n : ℕ). AllOf (λ b. FitsTable n b.entries) side.third.handed) holds.buckets holds.lane.well_formed.tables));
       };
       timely = record {
         due0 = holds.cell0.due_then;
@@ -234,7 +227,7 @@ moved4 : (P : List Sent → List Sent → List Sent → List Loss → Type 0) (a
     → P x y z m → P a b c l
 moved4 P a b c x y z l m e0 e1 e2 e3 h =
     subst (λ (w : List Sent). P w b c l) (sym e0) (subst (λ (w : List Sent). P x w c l) (sym e1)
-        (subst (λ (w : List Sent). P x y w l) (sym e2) (subst (λ (w : List Loss). P x y z w) (sym e3) h)))
+    (subst (λ (w : List Sent). P x y w l) (sym e2) (subst (λ (w : List Loss). P x y z w) (sym e3) h)))
 
 pub moved_over : (P : List Sent → List Sent → List Sent → List Loss → Type 0) (setup : Setup) (driver : Driver) (side : Side) (share : Share)
     → IsOver setup driver side share → P side.first.handed side.second.handed side.third.handed driver.losses
@@ -263,7 +256,7 @@ valid_over pace trace cpu driver side share made due0 due1 due2 answered over =
           ));
       lost = subst (λ (z : List Loss). AreLostSamples samples z) (sym over.losses)
           (subst (λ (n : ℕ). Each (λ done loss. (loss.index < n) × AllOf (λ m. m.index < loss.index) done
-              × IsSomeAnd (slice_get samples loss.index) (λ sample. loss.event ≡ sample.key.event)) driver.losses) over.end.at over.lane.losses_in_order);
+          × IsSomeAnd (slice_get samples loss.index) (λ sample. loss.event ≡ sample.key.event)) driver.losses) over.end.at over.lane.losses_in_order);
       in_order = record {
         order0 = subst (λ (z : List Sent). InOrder z) (sym over.all0) over.lane.well_formed.order0;
         order1 = subst (λ (z : List Sent). InOrder z) (sym over.all1) over.lane.well_formed.order1;
@@ -335,7 +328,7 @@ lane_over pace trace cpu at first second third processor all flushed holds =
     let reached : reaches far (Some names.1) ≡ true =
     all_last (λ b. b.note.answers ≡ value → reaches far (Some b) ≡ true) names.0 names.1
     (subst (λ (z : List Sent). AllOf (λ b. b.note.answers ≡ value → reaches far (Some b) ≡ true) z) taken_is
-        (answering_all value low far.third.taken far (asked_below pace records at) answers flushed)) own in
+    (answering_all value low far.third.taken far (asked_below pace records at) answers flushed)) own in
     let parts = both_parts (leb names.1.note.sent0 (length far.first.taken)) (leb names.1.note.sent1 (length far.second.taken)) reached in
     record {
       lane = holds.lane;
@@ -390,7 +383,7 @@ valid_run pace trace first_epoch run system holds finished =
           let found = got_within system.processors cpu (omega (arith, holds.count)) in
           subst (λ (l : List Loss). IsValidShare pace trace (stream_of cpu trace) (share_in daemon.drains l cpu)) (sym (losses_at system.processors cpu found.0 found.1))
           (share_over pace trace cpu daemon.applied (drains_of cpu 0 daemon.drains) (drains_of cpu 1 daemon.drains) (drains_of cpu 2 daemon.drains) found.0 ended.all
-              (ended.flushed cpu found.0 found.1) (ended_lane pace trace first_epoch system cpu found.0 holds ended found.1));
+          (ended.flushed cpu found.0 found.1) (ended_lane pace trace first_epoch system cpu found.0 holds ended found.1));
     }
 
 pub agreeing_run : (pace : Pace) (trace : Recording) (first_epoch run : ℕ) (system : System) → SystemHolds pace trace first_epoch system
@@ -405,8 +398,8 @@ agreeing_run pace trace first_epoch run system holds finished =
           subst (λ (o : Option Stats). IsSomeAnd o (AgreesWith (length (stream_of cpu trace)) (share_of (record_of run first_epoch system) cpu)))
           (sym (map_got (λ (p : Processor). p.driver.stats) system.processors cpu found.0 found.1))
           (subst (λ (l : List Loss). AgreesWith (length (stream_of cpu trace)) (share_in daemon.drains l cpu) found.0.driver.stats) (sym (losses_at system.processors cpu found.0 found.1))
-              (agrees_over (setup_of pace trace cpu) found.0.driver found.0.side
-                  (record { first = drains_of cpu 0 daemon.drains; second = drains_of cpu 1 daemon.drains; third = drains_of cpu 2 daemon.drains; losses = found.0.driver.losses })
-                  (lane_over pace trace cpu daemon.applied (drains_of cpu 0 daemon.drains) (drains_of cpu 1 daemon.drains) (drains_of cpu 2 daemon.drains) found.0 ended.all
-                      (ended.flushed cpu found.0 found.1) (ended_lane pace trace first_epoch system cpu found.0 holds ended found.1))));
+          (agrees_over (setup_of pace trace cpu) found.0.driver found.0.side
+          (record { first = drains_of cpu 0 daemon.drains; second = drains_of cpu 1 daemon.drains; third = drains_of cpu 2 daemon.drains; losses = found.0.driver.losses })
+          (lane_over pace trace cpu daemon.applied (drains_of cpu 0 daemon.drains) (drains_of cpu 1 daemon.drains) (drains_of cpu 2 daemon.drains) found.0 ended.all
+          (ended.flushed cpu found.0 found.1) (ended_lane pace trace first_epoch system cpu found.0 holds ended found.1))));
     }

@@ -166,11 +166,13 @@ pub settled_next : (at count0 count1 : ℕ) (first second third : List Drained)
     → AllOf (λ t. t.batch.note.answers ≡ flush_before at → IsReached count0 count1 t) third → AllOf (IsTakenInTime first second) third
     → AllOf (IsSettled at count0 count1) third → AllOf (IsSettled (at + 1) count0 count1) third
 settled_next at count0 count1 first second [] reached times settled = tt
-settled_next at count0 count1 first second (t ∷ third) reached times settled =
-    ((λ early. elim (cases t.at) as (λ z. IsReached count0 count1 t) [
-      inl below ↦ settled.0 below
+settled_next at count0 count1 first second (t ∷ third) reached times settled = (
+  (λ early. elim (cases t.at) as (λ z. IsReached count0 count1 t) [
+    | inl below ↦ settled.0 below
     | inr other ↦ let here : t.at ≡ at = omega arith in reached.0 (times.0.now ∙ ap (λ (n : ℕ). flush_before n) here)
-    ]), settled_next at count0 count1 first second third reached.1 times.1 settled.1)
+  ]),
+  settled_next at count0 count1 first second third reached.1 times.1 settled.1,
+)
   where
     cases : (n : ℕ) → (n < at) ⊎ (at ≤ n)
     cases n = cond_both (leb at n) tt tt (λ (z : Unit {0}). (n < at) ⊎ (at ≤ n)) (λ e. inr (leb-true at n e)) (λ e. inl (leb-false at n e))

@@ -7,3 +7,7 @@ pub mod Draining
 pub mod Keeping
 pub mod Systems
 pub mod Endings
+pub mod Growing
+pub mod Passing
+pub mod Storing
+pub mod Lossless

@@ -14,7 +14,7 @@ use Rattle.driver_laws.proofs.Lists.{append-nil}
 use Rattle.run_model.specs.Daemon.{needs_flush, in_force, flush_before, answering, reaches, is_flushed}
 use Rattle.run_model.specs.Validity.{flushes_of, answers_owed}
 use Rattle.run_model.specs.Books.{AsksInNeed}
-use Rattle.run_laws.proofs.Basics.{taken_one, none_there, eqb_below}
+use Rattle.run_laws.proofs.Basics.{taken_one, none_there, eqb_apart}
 
 -- the flushes asked for before the record of this number
 abbrev pub asked_before : Pace → List Record → ℕ → List ℕ
@@ -36,7 +36,7 @@ flushes_append pace number (x ∷ xs) ys =
     cond_both (needs_flush pace x) (flush_before number ∷ flushes_of pace (number + 1) xs) (flushes_of pace (number + 1) xs)
     (λ (z : List ℕ). flushes_of pace number (x ∷ (xs ++ ys)) ≡ z ++ flushes_of pace (number + length (x ∷ xs)) ys)
     (λ e. cond-true (needs_flush pace x) (flush_before number ∷ flushes_of pace (number + 1) (xs ++ ys)) (flushes_of pace (number + 1) (xs ++ ys)) e
-        ∙ ap {B = List ℕ} (λ (z : List ℕ). flush_before number ∷ z) rest)
+    ∙ ap {B = List ℕ} (λ (z : List ℕ). flush_before number ∷ z) rest)
     (λ e. cond-false (needs_flush pace x) (flush_before number ∷ flushes_of pace (number + 1) (xs ++ ys)) (flushes_of pace (number + 1) (xs ++ ys)) e ∙ rest)
 
 -- all of them are below the next one
@@ -86,11 +86,12 @@ pub owed_after : (pace : Pace) (records : List Record) (at : ℕ)
     → (rest : List ℕ) × (asked_before pace records at ++ rest ≡ answers_owed pace records)
 owed_after pace records at =
     let more = flushes_of pace (0 + length (take at records)) (drop at records) in
-    let close = flush_before (length records) ∷ [] in
-    (more ++ close,
-        sym (append_assoc (asked_before pace records at) more close)
-        ∙ ap {B = List ℕ} (λ (z : List ℕ). z ++ close) (sym (flushes_append pace 0 (take at records) (drop at records)))
-        ∙ ap {B = List ℕ} (λ (z : List Record). flushes_of pace 0 z ++ close) (take-append-drop at records))
+    let close = flush_before (length records) ∷ [] in (
+      more ++ close,
+      sym (append_assoc (asked_before pace records at) more close)
+          ∙ ap {B = List ℕ} (λ (z : List ℕ). z ++ close) (sym (flushes_append pace 0 (take at records) (drop at records)))
+          ∙ ap {B = List ℕ} (λ (z : List Record). flushes_of pace 0 z ++ close) (take-append-drop at records),
+    )
 
 -- and behind a flush that is asked for now
 pub owed_now : (pace : Pace) (records : List Record) (at : ℕ) → at ≤ length records → AsksInNeed pace (slice_get records at)
@@ -111,7 +112,7 @@ pub unreached : (value : ℕ) (batches : List Sent) (far : FarSide) → AllOf (�
     → reaches far (answering value batches) ≡ true → ⊥
 unreached value [] far below h = cc
 unreached value (b ∷ bs) far below h =
-    let no : eqb b.note.answers value ≡ false = eqb_below b.note.answers value (omega (arith, below.0)) in
+    let no : eqb b.note.answers value ≡ false = eqb_apart b.note.answers value (λ e. omega (arith, below.0)) in
     unreached value bs far below.1
     (subst (λ (z : Option Sent). reaches far z ≡ true) (cond-false (eqb b.note.answers value) (Some b) (answering value bs) no) h)
 
@@ -122,17 +123,20 @@ pub answering_all : (value : ℕ) (low : List ℕ) (batches : List Sent) (far : 
     → AllOf (λ b. b.note.answers ≡ value → reaches far (Some b) ≡ true) batches
 answering_all value low [] far below e h = tt
 answering_all value [] (b ∷ []) far below e h =
-    let same : b.note.answers ≡ value = cc in
-    ((λ s. subst (λ (z : Option Sent). reaches far z ≡ true)
-        (cond-true (eqb b.note.answers value) (Some b) (answering value []) (eq-eqb b.note.answers value same)) h), tt)
+    let same : b.note.answers ≡ value = cc in (
+      (λ s. subst (λ (z : Option Sent). reaches far z ≡ true)
+          (cond-true (eqb b.note.answers value) (Some b) (answering value []) (eq-eqb b.note.answers value same)) h),
+      tt,
+    )
 answering_all value [] (b ∷ c ∷ bs) far below e h = cc
 answering_all value (x ∷ low) (b ∷ bs) far below e h =
     let same : b.note.answers ≡ x = cc in
     let rest : answers_of bs ≡ low ++ value ∷ [] = cc in
-    let no : eqb b.note.answers value ≡ false = eqb_below b.note.answers value (omega (arith, below.0, same)) in
-    ((λ s. absurd (omega (arith, below.0, same, s))),
-        answering_all value low bs far below.1 rest
-        (subst (λ (z : Option Sent). reaches far z ≡ true) (cond-false (eqb b.note.answers value) (Some b) (answering value bs) no) h))
+    let no : eqb b.note.answers value ≡ false = eqb_apart b.note.answers value (λ e. omega (arith, below.0, same)) in (
+      (λ s. absurd (omega (arith, below.0, same, s))),
+      answering_all value low bs far below.1 rest
+          (subst (λ (z : Option Sent). reaches far z ≡ true) (cond-false (eqb b.note.answers value) (Some b) (answering value bs) no) h),
+    )
 
 -- the value answered last is the last of the answers
 pub last_of_answers : (least value : ℕ) (batches : List Sent) (low : List ℕ) → answers_of batches ≡ low ++ value ∷ [] → last_answer least batches ≡ value

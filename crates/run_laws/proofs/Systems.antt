@@ -24,7 +24,7 @@ use Rattle.run_model.specs.Running.{Processor, System, setup_of, room_for, new_p
 use Rattle.run_model.specs.Shares.{is_of, drains_of}
 use Rattle.run_model.specs.Books.{AsksInNeed, KeepsBooks}
 use Rattle.run_laws.specs.Laws.{IsFit, run_so_far}
-use Rattle.run_laws.proofs.Basics.{none_there, eqb_below, front_some, both_answers}
+use Rattle.run_laws.proofs.Basics.{none_there, eqb_apart, front_some, both_answers}
 use Rattle.run_laws.proofs.Driven.{DriverLaws}
 use Rattle.run_laws.proofs.Lanes.{IsOf, LaneHolds}
 use Rattle.run_laws.proofs.Turning.{lane_turned}
@@ -103,9 +103,9 @@ drains_push cpu cell (d ∷ ds) drain own =
     cond_both (is_of cpu cell d) (d ∷ drains_of cpu cell ds) (drains_of cpu cell ds)
     (λ (z : List Drained). z ++ drain ∷ [] ≡ drains_of cpu cell (d ∷ (ds ++ drain ∷ [])))
     (λ e. ap {B = List Drained} (λ (z : List Drained). d ∷ z) (drains_push cpu cell ds drain own)
-        ∙ sym (cond-true (is_of cpu cell d) (d ∷ drains_of cpu cell (ds ++ drain ∷ [])) (drains_of cpu cell (ds ++ drain ∷ [])) e))
+    ∙ sym (cond-true (is_of cpu cell d) (d ∷ drains_of cpu cell (ds ++ drain ∷ [])) (drains_of cpu cell (ds ++ drain ∷ [])) e))
     (λ e. drains_push cpu cell ds drain own
-        ∙ sym (cond-false (is_of cpu cell d) (d ∷ drains_of cpu cell (ds ++ drain ∷ [])) (drains_of cpu cell (ds ++ drain ∷ [])) e))
+    ∙ sym (cond-false (is_of cpu cell d) (d ∷ drains_of cpu cell (ds ++ drain ∷ [])) (drains_of cpu cell (ds ++ drain ∷ [])) e))
 
 -- another one leaves them
 pub drains_other : (cpu cell : ℕ) (drains : List Drained) (drain : Drained) → is_of cpu cell drain ≡ false
@@ -115,28 +115,21 @@ drains_other cpu cell (d ∷ ds) drain own =
     cond_both (is_of cpu cell d) (d ∷ drains_of cpu cell ds) (drains_of cpu cell ds)
     (λ (z : List Drained). z ≡ drains_of cpu cell (d ∷ (ds ++ drain ∷ [])))
     (λ e. ap {B = List Drained} (λ (z : List Drained). d ∷ z) (drains_other cpu cell ds drain own)
-        ∙ sym (cond-true (is_of cpu cell d) (d ∷ drains_of cpu cell (ds ++ drain ∷ [])) (drains_of cpu cell (ds ++ drain ∷ [])) e))
+    ∙ sym (cond-true (is_of cpu cell d) (d ∷ drains_of cpu cell (ds ++ drain ∷ [])) (drains_of cpu cell (ds ++ drain ∷ [])) e))
     (λ e. drains_other cpu cell ds drain own
-        ∙ sym (cond-false (is_of cpu cell d) (d ∷ drains_of cpu cell (ds ++ drain ∷ [])) (drains_of cpu cell (ds ++ drain ∷ [])) e))
+    ∙ sym (cond-false (is_of cpu cell d) (d ∷ drains_of cpu cell (ds ++ drain ∷ [])) (drains_of cpu cell (ds ++ drain ∷ [])) e))
 
--- whether two numbers are equal
-eqb_other : (x y : ℕ) → (x ≡ y → ⊥) → eqb x y ≡ false
-eqb_other x y apart = differ (eqb x y) refl
-  where
-    differ : (t : Bool) → eqb x y ≡ t → eqb x y ≡ false
-    differ true e = absurd (apart (eqb-true x y e))
-    differ false e = e
-
-of_cell : (cpu cell : ℕ) (drain : Drained) → IsOf cpu cell drain.batch → is_of cpu cell drain ≡ true
+-- a batch of this cell of this processor
+pub of_cell : (cpu cell : ℕ) (drain : Drained) → IsOf cpu cell drain.batch → is_of cpu cell drain ≡ true
 of_cell cpu cell drain own = rw (eq-eqb drain.batch.note.cpu cpu own.0, eq-eqb drain.batch.note.cell cell own.1) refl
 
-of_other_cell : (cpu cell other : ℕ) (drain : Drained) → IsOf cpu cell drain.batch → (cell ≡ other → ⊥) → is_of cpu other drain ≡ false
+pub of_other_cell : (cpu cell other : ℕ) (drain : Drained) → IsOf cpu cell drain.batch → (cell ≡ other → ⊥) → is_of cpu other drain ≡ false
 of_other_cell cpu cell other drain own apart =
-    and_right (eqb drain.batch.note.cpu cpu) (eqb drain.batch.note.cell other) (eqb_other drain.batch.note.cell other (λ e. apart (sym own.1 ∙ e)))
+    and_right (eqb drain.batch.note.cpu cpu) (eqb drain.batch.note.cell other) (eqb_apart drain.batch.note.cell other (λ e. apart (sym own.1 ∙ e)))
 
-of_other_cpu : (cpu other cell : ℕ) (drain : Drained) → drain.batch.note.cpu ≡ cpu → (cpu ≡ other → ⊥) → is_of other cell drain ≡ false
+pub of_other_cpu : (cpu other cell : ℕ) (drain : Drained) → drain.batch.note.cpu ≡ cpu → (cpu ≡ other → ⊥) → is_of other cell drain ≡ false
 of_other_cpu cpu other cell drain own apart =
-    and_left (eqb drain.batch.note.cpu other) (eqb drain.batch.note.cell cell) (eqb_other drain.batch.note.cpu other (λ e. apart (sym own ∙ e)))
+    and_left (eqb drain.batch.note.cpu other) (eqb drain.batch.note.cell cell) (eqb_apart drain.batch.note.cpu other (λ e. apart (sym own ∙ e)))
 
 -- what a driver of a trace is made for
 pub fit_setup : (pace : Pace) (trace : Recording) (cpu : ℕ) → IsFit trace → cpu < trace.cpus → IsSetup (setup_of pace trace cpu)
@@ -186,13 +179,13 @@ turn_holds laws pace trace first_epoch system cpu None fit there going holds = h
 turn_holds laws pace trace first_epoch system cpu (Some processor) fit there going holds = record {
   count = length-set system.processors cpu (turned (setup_of pace trace cpu) processor) ∙ holds.count;
   lanes = λ k p got. elim (one_changed system.processors cpu k (turned (setup_of pace trace cpu) processor) p got) as (λ z. HoldsAt pace trace system.daemon k p) [
-    inl e ↦ subst (λ (n : ℕ). HoldsAt pace trace system.daemon n p) (sym e.0)
-      (subst (λ (q : Processor). HoldsAt pace trace system.daemon cpu q) (sym e.1)
-          (lane_turned laws pace trace cpu system.daemon.applied system.daemon.asking (drains_of cpu 0 system.daemon.drains)
-              (drains_of cpu 1 system.daemon.drains) (drains_of cpu 2 system.daemon.drains) processor
-              (fit_setup pace trace cpu fit (omega (arith, slice_get_within system.processors cpu processor there, holds.count)))
-              (holds.lanes cpu processor there)))
-  | inr e ↦ holds.lanes k p e
+    | inl e ↦ subst (λ (n : ℕ). HoldsAt pace trace system.daemon n p) (sym e.0)
+        (subst (λ (q : Processor). HoldsAt pace trace system.daemon cpu q) (sym e.1)
+        (lane_turned laws pace trace cpu system.daemon.applied system.daemon.asking (drains_of cpu 0 system.daemon.drains)
+        (drains_of cpu 1 system.daemon.drains) (drains_of cpu 2 system.daemon.drains) processor
+        (fit_setup pace trace cpu fit (omega (arith, slice_get_within system.processors cpu processor there, holds.count)))
+        (holds.lanes cpu processor there)))
+    | inr e ↦ holds.lanes k p e
   ];
   books = holds.books;
   ended = λ done. both_answers system.daemon.finished done going;
@@ -205,7 +198,7 @@ lane_lists : (pace : Pace) (trace : Recording) (cpu at : ℕ) (asking : Bool) (f
 lane_lists pace trace cpu at asking first second third first1 second1 third1 processor e0 e1 e2 holds =
     subst (λ (z : List Drained). LaneHolds pace trace cpu at asking first1 second1 z processor) e2
     (subst (λ (z : List Drained). LaneHolds pace trace cpu at asking first1 z third processor) e1
-        (subst (λ (z : List Drained). LaneHolds pace trace cpu at asking z second third processor) e0 holds))
+    (subst (λ (z : List Drained). LaneHolds pace trace cpu at asking z second third processor) e0 holds))
 
 -- the run after a poll that made of the processor this one and brought this batch
 abbrev pub AfterPoll : Recording → System → ℕ → Processor → Option Sent → System
@@ -221,8 +214,8 @@ poll_none : (pace : Pace) (trace : Recording) (first_epoch : ℕ) (system : Syst
 poll_none pace trace first_epoch system cpu after going lane holds = record {
   count = length-set system.processors cpu after ∙ holds.count;
   lanes = λ k p got. elim (one_changed system.processors cpu k after p got) as (λ z. HoldsAt pace trace system.daemon k p) [
-    inl e ↦ subst (λ (n : ℕ). HoldsAt pace trace system.daemon n p) (sym e.0) (subst (λ (q : Processor). HoldsAt pace trace system.daemon cpu q) (sym e.1) lane)
-  | inr e ↦ holds.lanes k p e
+    | inl e ↦ subst (λ (n : ℕ). HoldsAt pace trace system.daemon n p) (sym e.0) (subst (λ (q : Processor). HoldsAt pace trace system.daemon cpu q) (sym e.1) lane)
+    | inr e ↦ holds.lanes k p e
   ];
   books = holds.books;
   ended = λ done. both_answers system.daemon.finished done going;
@@ -249,8 +242,8 @@ poll_some pace trace first_epoch system cpu after batch going within own cell la
     record {
       count = length-set system.processors cpu after ∙ holds.count;
       lanes = λ k p got. elim (one_changed system.processors cpu k after p got) as (λ z. HoldsAt pace trace daemon k p) [
-        inl e ↦ subst (λ (n : ℕ). HoldsAt pace trace daemon n p) (sym e.0) (subst (λ (q : Processor). HoldsAt pace trace daemon cpu q) (sym e.1) lane)
-      | inr e ↦ beside k p got e (eqb cpu k) refl
+        | inl e ↦ subst (λ (n : ℕ). HoldsAt pace trace daemon n p) (sym e.0) (subst (λ (q : Processor). HoldsAt pace trace daemon cpu q) (sym e.1) lane)
+        | inr e ↦ beside k p got e (eqb cpu k) refl
       ];
       books = books_noted pace trace first_epoch system.daemon batch (omega (arith, own)) cell holds.books;
       ended = λ done. both_answers system.daemon.finished done going;
@@ -276,7 +269,7 @@ poll_first laws pace trace first_epoch system cpu processor word None there goin
     let daemon = system.daemon in
     poll_none pace trace first_epoch system cpu (poll_buffer processor 0 word None) going
     (lane_polled0 laws.polls pace trace cpu daemon.applied daemon.asking (drains_of cpu 0 daemon.drains) (drains_of cpu 1 daemon.drains)
-        (drains_of cpu 2 daemon.drains) processor word (holds.lanes cpu processor there)) holds
+    (drains_of cpu 2 daemon.drains) processor word (holds.lanes cpu processor there)) holds
 poll_first laws pace trace first_epoch system cpu processor word (Some batch) there going waits holds =
     let daemon = system.daemon in
     let lane = holds.lanes cpu processor there in
@@ -287,13 +280,13 @@ poll_first laws pace trace first_epoch system cpu processor word (Some batch) th
     poll_some pace trace first_epoch system cpu (poll_buffer processor 0 word (Some batch)) batch going
     (omega (arith, slice_get_within system.processors cpu processor there, holds.count)) own.0 (omega (arith, own.1))
     (lane_lists pace trace cpu daemon.applied daemon.asking (drains_of cpu 0 daemon.drains ++ drain ∷ []) (drains_of cpu 1 daemon.drains) (drains_of cpu 2 daemon.drains)
-        (drains_of cpu 0 (daemon.drains ++ drain ∷ [])) (drains_of cpu 1 (daemon.drains ++ drain ∷ [])) (drains_of cpu 2 (daemon.drains ++ drain ∷ []))
-        (poll_buffer processor 0 word (Some batch))
-        (drains_push cpu 0 daemon.drains drain (of_cell cpu 0 drain own))
-        (drains_other cpu 1 daemon.drains drain (of_other_cell cpu 0 1 drain own (λ e. omega arith)))
-        (drains_other cpu 2 daemon.drains drain (of_other_cell cpu 0 2 drain own (λ e. omega arith)))
-        (lane_drained0 laws.polls pace trace cpu daemon.applied daemon.asking (drains_of cpu 0 daemon.drains) (drains_of cpu 1 daemon.drains)
-            (drains_of cpu 2 daemon.drains) processor word drain waits refl lane)) holds
+    (drains_of cpu 0 (daemon.drains ++ drain ∷ [])) (drains_of cpu 1 (daemon.drains ++ drain ∷ [])) (drains_of cpu 2 (daemon.drains ++ drain ∷ []))
+    (poll_buffer processor 0 word (Some batch))
+    (drains_push cpu 0 daemon.drains drain (of_cell cpu 0 drain own))
+    (drains_other cpu 1 daemon.drains drain (of_other_cell cpu 0 1 drain own (λ e. omega arith)))
+    (drains_other cpu 2 daemon.drains drain (of_other_cell cpu 0 2 drain own (λ e. omega arith)))
+    (lane_drained0 laws.polls pace trace cpu daemon.applied daemon.asking (drains_of cpu 0 daemon.drains) (drains_of cpu 1 daemon.drains)
+    (drains_of cpu 2 daemon.drains) processor word drain waits refl lane)) holds
 
 poll_second : DriverLaws → (pace : Pace) (trace : Recording) (first_epoch : ℕ) (system : System) (cpu : ℕ) (processor : Processor) (word : ℕ) (found : Option Sent)
     → slice_get system.processors cpu ≡ Some processor → system.daemon.finished ≡ false
@@ -303,7 +296,7 @@ poll_second laws pace trace first_epoch system cpu processor word None there goi
     let daemon = system.daemon in
     poll_none pace trace first_epoch system cpu (poll_buffer processor 1 word None) going
     (lane_polled1 laws.polls pace trace cpu daemon.applied daemon.asking (drains_of cpu 0 daemon.drains) (drains_of cpu 1 daemon.drains)
-        (drains_of cpu 2 daemon.drains) processor word (holds.lanes cpu processor there)) holds
+    (drains_of cpu 2 daemon.drains) processor word (holds.lanes cpu processor there)) holds
 poll_second laws pace trace first_epoch system cpu processor word (Some batch) there going waits holds =
     let daemon = system.daemon in
     let lane = holds.lanes cpu processor there in
@@ -314,13 +307,13 @@ poll_second laws pace trace first_epoch system cpu processor word (Some batch) t
     poll_some pace trace first_epoch system cpu (poll_buffer processor 1 word (Some batch)) batch going
     (omega (arith, slice_get_within system.processors cpu processor there, holds.count)) own.0 (omega (arith, own.1))
     (lane_lists pace trace cpu daemon.applied daemon.asking (drains_of cpu 0 daemon.drains) (drains_of cpu 1 daemon.drains ++ drain ∷ []) (drains_of cpu 2 daemon.drains)
-        (drains_of cpu 0 (daemon.drains ++ drain ∷ [])) (drains_of cpu 1 (daemon.drains ++ drain ∷ [])) (drains_of cpu 2 (daemon.drains ++ drain ∷ []))
-        (poll_buffer processor 1 word (Some batch))
-        (drains_other cpu 0 daemon.drains drain (of_other_cell cpu 1 0 drain own (λ e. omega arith)))
-        (drains_push cpu 1 daemon.drains drain (of_cell cpu 1 drain own))
-        (drains_other cpu 2 daemon.drains drain (of_other_cell cpu 1 2 drain own (λ e. omega arith)))
-        (lane_drained1 laws.polls pace trace cpu daemon.applied daemon.asking (drains_of cpu 0 daemon.drains) (drains_of cpu 1 daemon.drains)
-            (drains_of cpu 2 daemon.drains) processor word drain waits refl lane)) holds
+    (drains_of cpu 0 (daemon.drains ++ drain ∷ [])) (drains_of cpu 1 (daemon.drains ++ drain ∷ [])) (drains_of cpu 2 (daemon.drains ++ drain ∷ []))
+    (poll_buffer processor 1 word (Some batch))
+    (drains_other cpu 0 daemon.drains drain (of_other_cell cpu 1 0 drain own (λ e. omega arith)))
+    (drains_push cpu 1 daemon.drains drain (of_cell cpu 1 drain own))
+    (drains_other cpu 2 daemon.drains drain (of_other_cell cpu 1 2 drain own (λ e. omega arith)))
+    (lane_drained1 laws.polls pace trace cpu daemon.applied daemon.asking (drains_of cpu 0 daemon.drains) (drains_of cpu 1 daemon.drains)
+    (drains_of cpu 2 daemon.drains) processor word drain waits refl lane)) holds
 
 poll_third : DriverLaws → (pace : Pace) (trace : Recording) (first_epoch : ℕ) (system : System) (cpu : ℕ) (processor : Processor) (word : ℕ) (found : Option Sent)
     → slice_get system.processors cpu ≡ Some processor → system.daemon.finished ≡ false
@@ -330,7 +323,7 @@ poll_third laws pace trace first_epoch system cpu processor word None there goin
     let daemon = system.daemon in
     poll_none pace trace first_epoch system cpu (poll_table processor word None) going
     (lane_polled2 laws.polls pace trace cpu daemon.applied daemon.asking (drains_of cpu 0 daemon.drains) (drains_of cpu 1 daemon.drains)
-        (drains_of cpu 2 daemon.drains) processor word (holds.lanes cpu processor there)) holds
+    (drains_of cpu 2 daemon.drains) processor word (holds.lanes cpu processor there)) holds
 poll_third laws pace trace first_epoch system cpu processor word (Some batch) there going waits holds =
     let daemon = system.daemon in
     let lane = holds.lanes cpu processor there in
@@ -341,13 +334,13 @@ poll_third laws pace trace first_epoch system cpu processor word (Some batch) th
     poll_some pace trace first_epoch system cpu (poll_table processor word (Some batch)) batch going
     (omega (arith, slice_get_within system.processors cpu processor there, holds.count)) own.0 (omega (arith, own.1))
     (lane_lists pace trace cpu daemon.applied daemon.asking (drains_of cpu 0 daemon.drains) (drains_of cpu 1 daemon.drains) (drains_of cpu 2 daemon.drains ++ drain ∷ [])
-        (drains_of cpu 0 (daemon.drains ++ drain ∷ [])) (drains_of cpu 1 (daemon.drains ++ drain ∷ [])) (drains_of cpu 2 (daemon.drains ++ drain ∷ []))
-        (poll_table processor word (Some batch))
-        (drains_other cpu 0 daemon.drains drain (of_other_cell cpu 2 0 drain own (λ e. omega arith)))
-        (drains_other cpu 1 daemon.drains drain (of_other_cell cpu 2 1 drain own (λ e. omega arith)))
-        (drains_push cpu 2 daemon.drains drain (of_cell cpu 2 drain own))
-        (lane_drained2 laws.polls pace trace cpu daemon.applied daemon.asking (drains_of cpu 0 daemon.drains) (drains_of cpu 1 daemon.drains)
-            (drains_of cpu 2 daemon.drains) processor word drain waits refl lane)) holds
+    (drains_of cpu 0 (daemon.drains ++ drain ∷ [])) (drains_of cpu 1 (daemon.drains ++ drain ∷ [])) (drains_of cpu 2 (daemon.drains ++ drain ∷ []))
+    (poll_table processor word (Some batch))
+    (drains_other cpu 0 daemon.drains drain (of_other_cell cpu 2 0 drain own (λ e. omega arith)))
+    (drains_other cpu 1 daemon.drains drain (of_other_cell cpu 2 1 drain own (λ e. omega arith)))
+    (drains_push cpu 2 daemon.drains drain (of_cell cpu 2 drain own))
+    (lane_drained2 laws.polls pace trace cpu daemon.applied daemon.asking (drains_of cpu 0 daemon.drains) (drains_of cpu 1 daemon.drains)
+    (drains_of cpu 2 daemon.drains) processor word drain waits refl lane)) holds
 
 -- a poll of a cell of 2 or more is of the table
 pub polls_table : (processor : Processor) (cell : ℕ) → polled processor (suc (suc cell)) ≡ poll_table processor (words_of processor).third (waiting_at processor (suc (suc cell)))
@@ -356,9 +349,9 @@ polls_table processor cell =
     let found = waiting_at processor at in
     cond-false (eqb at 0) (poll_buffer processor 0 (words_of processor).two.first found)
     (if eqb at 1 then poll_buffer processor 1 (words_of processor).two.second found else poll_table processor (words_of processor).third found)
-    (eqb_other at 0 (λ e. omega arith))
+    (eqb_apart at 0 (λ e. omega arith))
     ∙ cond-false (eqb at 1) (poll_buffer processor 1 (words_of processor).two.second found) (poll_table processor (words_of processor).third found)
-      (eqb_other at 1 (λ e. omega arith))
+    (eqb_apart at 1 (λ e. omega arith))
 
 pub waits_table : (processor : Processor) (cell : ℕ) → waiting_at processor (suc (suc cell)) ≡ waiting_in processor.side.third.handed processor.far.third.taken
 waits_table processor cell =
@@ -366,8 +359,8 @@ waits_table processor cell =
     let first = waiting_in processor.side.first.handed processor.far.first.taken in
     let second = waiting_in processor.side.second.handed processor.far.second.taken in
     let third = waiting_in processor.side.third.handed processor.far.third.taken in
-    cond-false (eqb at 0) first (if eqb at 1 then second else third) (eqb_other at 0 (λ e. omega arith))
-    ∙ cond-false (eqb at 1) second third (eqb_other at 1 (λ e. omega arith))
+    cond-false (eqb at 0) first (if eqb at 1 then second else third) (eqb_apart at 0 (λ e. omega arith))
+    ∙ cond-false (eqb at 1) second third (eqb_apart at 1 (λ e. omega arith))
 
 -- a poll
 poll_holds : DriverLaws → (pace : Pace) (trace : Recording) (first_epoch : ℕ) (system : System) (cpu cell : ℕ) (found : Option Processor)
@@ -381,7 +374,7 @@ poll_holds laws pace trace first_epoch system cpu (suc zero) (Some processor) th
 poll_holds laws pace trace first_epoch system cpu (suc (suc cell)) (Some processor) there going holds =
     subst (λ (q : Processor). SystemHolds pace trace first_epoch (AfterPoll trace system cpu q (waiting_at processor (suc (suc cell))))) (sym (polls_table processor cell))
     (poll_third laws pace trace first_epoch system cpu processor (words_of processor).third (waiting_at processor (suc (suc cell))) there going
-        (sym (waits_table processor cell)) holds)
+    (sym (waits_table processor cell)) holds)
 
 -- the run after an advance that did this
 abbrev pub AfterAdvance : System → Advancing → System
@@ -423,9 +416,9 @@ ask_holds laws pace trace first_epoch system going free books holds =
     let daemon = system.daemon in
     ring_holds pace trace first_epoch (flush_before daemon.applied) system (ask daemon).daemon going books
     (λ cpu processor there. lane_asked laws.polls pace trace cpu daemon.applied (drains_of cpu 0 daemon.drains) (drains_of cpu 1 daemon.drains)
-        (drains_of cpu 2 daemon.drains) processor
-        (subst (λ (t : Bool). LaneHolds pace trace cpu daemon.applied t (drains_of cpu 0 daemon.drains) (drains_of cpu 1 daemon.drains) (drains_of cpu 2 daemon.drains) processor)
-            free (holds.lanes cpu processor there))) holds.count
+    (drains_of cpu 2 daemon.drains) processor
+    (subst (λ (t : Bool). LaneHolds pace trace cpu daemon.applied t (drains_of cpu 0 daemon.drains) (drains_of cpu 1 daemon.drains) (drains_of cpu 2 daemon.drains) processor)
+    free (holds.lanes cpu processor there))) holds.count
 
 -- a record that needs no flush is put in force
 move_holds : DriverLaws → (pace : Pace) (trace : Recording) (first_epoch : ℕ) (system : System) (notice : Record) → system.daemon.finished ≡ false
@@ -436,9 +429,9 @@ move_holds laws pace trace first_epoch system notice going free there need books
     let daemon = system.daemon in
     ring_holds pace trace first_epoch (in_force (daemon.applied + 1)) system (move daemon notice).daemon going books
     (λ cpu processor got. lane_moved laws.polls pace trace cpu daemon.applied notice (drains_of cpu 0 daemon.drains) (drains_of cpu 1 daemon.drains)
-        (drains_of cpu 2 daemon.drains) processor there need
-        (subst (λ (t : Bool). LaneHolds pace trace cpu daemon.applied t (drains_of cpu 0 daemon.drains) (drains_of cpu 1 daemon.drains) (drains_of cpu 2 daemon.drains) processor)
-            free (holds.lanes cpu processor got))) holds.count
+    (drains_of cpu 2 daemon.drains) processor there need
+    (subst (λ (t : Bool). LaneHolds pace trace cpu daemon.applied t (drains_of cpu 0 daemon.drains) (drains_of cpu 1 daemon.drains) (drains_of cpu 2 daemon.drains) processor)
+    free (holds.lanes cpu processor got))) holds.count
 
 -- nothing is asked for
 begin_holds : DriverLaws → (pace : Pace) (trace : Recording) (first_epoch : ℕ) (system : System) (next : Option Record) → system.daemon.finished ≡ false
@@ -473,9 +466,9 @@ settle_holds laws pace trace first_epoch system (Some notice) going asks there f
     let need : AsksInNeed pace (Some notice) = subst (λ (n : Option Record). AsksInNeed pace n) there (holds.books.stands.need asks) in
     ring_holds pace trace first_epoch (in_force (daemon.applied + 1)) system (move daemon notice).daemon going books
     (λ cpu processor got. lane_settled laws.polls pace trace cpu daemon.applied notice (drains_of cpu 0 daemon.drains) (drains_of cpu 1 daemon.drains)
-        (drains_of cpu 2 daemon.drains) processor there need (flushed cpu processor got)
-        (subst (λ (t : Bool). LaneHolds pace trace cpu daemon.applied t (drains_of cpu 0 daemon.drains) (drains_of cpu 1 daemon.drains) (drains_of cpu 2 daemon.drains) processor)
-            asks (holds.lanes cpu processor got))) holds.count
+    (drains_of cpu 2 daemon.drains) processor there need (flushed cpu processor got)
+    (subst (λ (t : Bool). LaneHolds pace trace cpu daemon.applied t (drains_of cpu 0 daemon.drains) (drains_of cpu 1 daemon.drains) (drains_of cpu 2 daemon.drains) processor)
+    asks (holds.lanes cpu processor got))) holds.count
 
 -- a flush is asked for
 go_on_holds : DriverLaws → (pace : Pace) (trace : Recording) (first_epoch : ℕ) (system : System) (waiting : Option ℕ) → system.daemon.finished ≡ false
@@ -489,7 +482,7 @@ go_on_holds laws pace trace first_epoch system None going asks ready books holds
     let all : AllOf (λ far. is_flushed (flush_before daemon.applied) far ≡ true) fars = all_ready (flush_before daemon.applied) 0 fars ready in
     settle_holds laws pace trace first_epoch system (slice_get (records_in trace) daemon.applied) going asks refl
     (λ cpu processor got. got_all (λ far. is_flushed (flush_before daemon.applied) far ≡ true) fars cpu processor.far all
-        (map_got (λ (p : Processor). p.far) system.processors cpu processor got)) books holds
+    (map_got (λ (p : Processor). p.far) system.processors cpu processor got)) books holds
 go_on_holds laws pace trace first_epoch system (Some cpu) going asks ready books holds = record {
   count = holds.count;
   lanes = holds.lanes;

@@ -39,7 +39,7 @@ hears_of law setup words driver side false is =
 hears_of law setup words driver side true is =
     subst (λ (t : Turned). Hears side t.side words.bell)
     (sym (cond-true driver.done (ends_with (record { driver = driver; side = side }) Done)
-        (after_regain setup words (regain driver (side_hear side words.bell) words.third driver.table)) is))
+    (after_regain setup words (regain driver (side_hear side words.bell) words.third driver.table)) is))
     (record { heard = inr refl; buckets = refl; buffer = refl })
 
 -- a cell after a turn
@@ -79,10 +79,10 @@ answering_turned pace records cpu at false before after taken bell answered held
 answering_turned pace records cpu at true before after taken bell answered held (inr one) rung last (inl all) =
     let own : one.batch.note.answers ≡ flush_before at = one.fact.0 ∙ rung in
     inr (
-      ap {B = List ℕ} (λ (z : List Sent). answers_of z) one.more
-      ∙ map-append (λ (b : Sent). b.note.answers) before (one.batch ∷ [])
-      ∙ ap {B = List ℕ} (λ (z : List ℕ). z ++ one.batch.note.answers ∷ []) all.0
-      ∙ ap {B = List ℕ} (λ (z : ℕ). asked_before pace records at ++ z ∷ []) own)
+    ap {B = List ℕ} (λ (z : List Sent). answers_of z) one.more
+    ∙ map-append (λ (b : Sent). b.note.answers) before (one.batch ∷ [])
+    ∙ ap {B = List ℕ} (λ (z : List ℕ). z ++ one.batch.note.answers ∷ []) all.0
+    ∙ ap {B = List ℕ} (λ (z : ℕ). asked_before pace records at ++ z ∷ []) own)
 answering_turned pace records cpu at true before after taken bell answered held (inr one) rung last (inr now) =
     let same : last_answer 0 before ≡ flush_before at = last_of_answers 0 (flush_before at) before (asked_before pace records at) now in
     absurd (omega (arith, one.fact.2))
@@ -95,8 +95,8 @@ rung_turned value rungs before after hears bell = record {
   behind = elim hears.heard as (λ z. after.heard ≤ value) [ inl now ↦ omega (arith, bell.last) | inr same ↦ omega (arith, bell.behind) ];
   rising = bell.rising;
   known = elim hears.heard as (λ z. WasRung after.heard rungs) [
-    inl now ↦ subst (λ (n : ℕ). WasRung n rungs) (sym now) (rung_known rungs)
-  | inr same ↦ subst (λ (n : ℕ). WasRung n rungs) (sym same) bell.known
+    | inl now ↦ subst (λ (n : ℕ). WasRung n rungs) (sym now) (rung_known rungs)
+    | inr same ↦ subst (λ (n : ℕ). WasRung n rungs) (sym same) bell.known
   ];
 }
 
@@ -120,9 +120,10 @@ lane_turned laws pace trace cpu at asking first second third processor made hold
       third = λ even. front_even far.third.taken side.third.handed holds.cell2.passed.front even;
     }) in
     record {
-      lane = laws.turn setup words driver side made holds.size
-          ((λ odd. front_odd far.first.taken side.first.handed holds.cell0.passed.front odd),
-              (λ odd. front_odd far.second.taken side.second.handed holds.cell1.passed.front odd))
+      lane = laws.turn setup words driver side made holds.size (
+        (λ odd. front_odd far.first.taken side.first.handed holds.cell0.passed.front odd),
+        (λ odd. front_odd far.second.taken side.second.handed holds.cell1.passed.front odd),
+      )
           (omega (arith, holds.bell.behind, holds.bell.last)) holds.lane;
       buckets = hears.buckets ∙ holds.buckets;
       size = holds.size ∙ sym hears.buffer;

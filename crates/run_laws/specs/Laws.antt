@@ -47,9 +47,68 @@ abbrev pub StatisticsAreRight : Type 0
 StatisticsAreRight = (pace : Pace) (trace : Recording) (first_epoch run : ℕ) (steps : List Step) → IsFit trace
     → (run_so_far pace trace first_epoch steps).daemon.finished ≡ true
     → StatisticsAgree trace (record_of run first_epoch (run_so_far pace trace first_epoch steps))
-        (stats_of (run_so_far pace trace first_epoch steps))
+    (stats_of (run_so_far pace trace first_epoch steps))
 
 -- At any moment the drains so far are those of a run that was cut short.
 abbrev pub DrainsAreValid : Type 0
 DrainsAreValid = (pace : Pace) (trace : Recording) (first_epoch : ℕ) (steps : List Step) → IsFit trace
     → IsPartialRun pace trace first_epoch (run_so_far pace trace first_epoch steps).daemon.drains
+
+-- The daemon went on from the first to the second: it is no less far, and what it drained meanwhile stands at the end, at
+-- positions from the first on.
+pub record Extends (before after : Daemon) : Type 0 where
+  pub applied : before.applied ≤ after.applied
+  pub more : List Drained
+  pub drains : after.drains ≡ before.drains ++ more
+  pub later : AllOf (λ drain. before.applied ≤ drain.at) more
+
+-- Steps only go on.
+abbrev pub StepsGoOn : Type 0
+StepsGoOn = (pace : Pace) (trace : Recording) (system : System) (steps : List Step)
+    → Extends system.daemon (after_steps pace trace system steps).daemon
+
+-- Once the record that ends a part is in force, the drains of the part stand.
+abbrev pub PartsStand : Type 0
+PartsStand = (pace : Pace) (trace : Recording) (system : System) (steps : List Step) (part : ℕ)
+    → part < part_of (records_in trace) system.daemon.applied
+    → drains_in_part (records_in trace) part (after_steps pace trace system steps).daemon.drains
+    ≡ drains_in_part (records_in trace) part system.daemon.drains
+
+-- Each cell of a processor is handed over as its word says, its bell never fell, and all that was taken was given back.
+pub record IsHandedOver (processor : Processor) : Type 0 where
+  pub first : IsHandover processor.side.first.handed processor.far.first.taken (length processor.far.first.taken)
+      (words_of processor).two.first processor.side.first.holds processor.far.first.holds
+  pub second : IsHandover processor.side.second.handed processor.far.second.taken (length processor.far.second.taken)
+      (words_of processor).two.second processor.side.second.holds processor.far.second.holds
+  pub third : IsHandover processor.side.third.handed processor.far.third.taken (length processor.far.third.taken)
+      (words_of processor).third processor.side.third.holds processor.far.third.holds
+  pub bell : IsBell processor.far.rungs (words_of processor).bell processor.side.heard
+  pub given : processor.far.given ≡ Some (counts_of processor.far)
+
+-- So it is between any two steps.
+abbrev pub SidesAreSound : Type 0
+SidesAreSound = (pace : Pace) (trace : Recording) (first_epoch : ℕ) (steps : List Step) → IsFit trace
+    → (cpu : ℕ) (processor : Processor) → slice_get (run_so_far pace trace first_epoch steps).processors cpu ≡ Some processor
+    → IsHandedOver processor
+
+-- Each part of what is kept of a run can be stored.
+abbrev pub RecordsCanBeStored : Type 0
+RecordsCanBeStored = (pace : Pace) (trace : Recording) (run first_epoch : ℕ) (steps : List Step) → IsFit trace → 1 ≤ run
+    → (part : ℕ) → part ≤ last_part (records_in trace)
+    → IsSegment (segment_of (records_in trace) (record_of run first_epoch (run_so_far pace trace first_epoch steps)) part)
+
+-- And the whole of it can be tallied.
+abbrev pub RecordsCanBeTallied : Type 0
+RecordsCanBeTallied = (pace : Pace) (trace : Recording) (run first_epoch : ℕ) (steps : List Step) → IsFit trace
+    → IsRecorded (record_of run first_epoch (run_so_far pace trace first_epoch steps))
+
+-- no sample was lost, and each table batch goes up to just the samples that were due where it was drained
+pub record IsLossless (trace : Recording) (system : System) : Type 0 where
+  pub losses : (cpu : ℕ) (processor : Processor) → slice_get system.processors cpu ≡ Some processor → processor.driver.losses ≡ []
+  pub due_then : (cpu : ℕ) → cpu < trace.cpus
+      → AllOf (λ drain. drain.batch.note.upto ≡ due (stream_of cpu trace) drain.at) (drains_of cpu 2 system.daemon.drains)
+
+-- At the exact pace nothing is lost.
+abbrev pub ExactRunsAreLossless : Type 0
+ExactRunsAreLossless = (trace : Recording) (first_epoch : ℕ) (steps : List Step) → IsFit trace
+    → IsLossless trace (run_so_far Exact trace first_epoch steps)
