@@ -15,7 +15,7 @@ use Rattle.driver_model.specs.Driver.{Setup, Driver, Words, Turned, turn_of, aft
 use Rattle.driver_model.specs.Invariant.{IsSetup, DriverInvariant, is_active, last_answer}
 use Rattle.driver_model.specs.declared.answers.Turn.TheVariants.{Done}
 use Rattle.driver_laws.specs.Turns.{BellIsHeard}
-use Rattle.driver_laws.specs.Doings.{CellDid, HandedNone, HandedOne, AnswersBell, AnswersNothing, Taken, DidBy}
+use Rattle.driver_laws.specs.Doings.{CellDid, HandedNone, HandedOne, AnswersBell, AnswersNothing, Taken, DidBy, TurnDid}
 use Rattle.driver_laws.proofs.Lists.{all_push}
 use Rattle.database_model.specs.Runs.{Drained}
 use Rattle.run_model.specs.Daemon.{in_force, flush_before}
@@ -100,6 +100,27 @@ rung_turned value rungs before after hears bell = record {
   ];
 }
 
+-- the batches that the daemon took of a processor
+abbrev pub taken_of : Processor → Taken
+taken_of processor = record { first = processor.far.first.taken; second = processor.far.second.taken; third = processor.far.third.taken }
+
+-- what a turn of its driver did to the cells of a processor
+pub turn_did : TurnDid → (pace : Pace) (trace : Recording) (cpu at : ℕ) (asking : Bool) (first second third : List Drained) (processor : Processor)
+    → LaneHolds pace trace cpu at asking first second third processor
+    → DidBy (setup_of pace trace cpu) (rung_of processor.far.rungs) processor.driver.answered (taken_of processor) processor.side
+    (turn_on (setup_of pace trace cpu) processor)
+turn_did law pace trace cpu at asking first second third processor holds =
+    let side = processor.side in
+    let far = processor.far in
+    law (setup_of pace trace cpu) (words_of processor) processor.driver side (taken_of processor)
+    (record { active = holds.lane.in_step.number; next = holds.lane.in_step.next })
+    (record { first = holds.cell0.passed.home; second = holds.cell1.passed.home; third = holds.cell2.passed.home })
+    (record {
+      first = λ even. front_even far.first.taken side.first.handed holds.cell0.passed.front even;
+      second = λ even. front_even far.second.taken side.second.handed holds.cell1.passed.front even;
+      third = λ even. front_even far.third.taken side.third.handed holds.cell2.passed.front even;
+    })
+
 pub lane_turned : DriverLaws → (pace : Pace) (trace : Recording) (cpu at : ℕ) (asking : Bool) (first second third : List Drained) (processor : Processor)
     → IsSetup (setup_of pace trace cpu) → LaneHolds pace trace cpu at asking first second third processor
     → LaneHolds pace trace cpu at asking first second third (turned (setup_of pace trace cpu) processor)
@@ -109,16 +130,8 @@ lane_turned laws pace trace cpu at asking first second third processor made hold
     let driver = processor.driver in
     let side = processor.side in
     let far = processor.far in
-    let taken : Taken = record { first = far.first.taken; second = far.second.taken; third = far.third.taken } in
     let hears : Hears side (turn_on setup processor).side (rung_of far.rungs) = hears_of laws.heard setup words driver side driver.done refl in
-    let did : DidBy setup words.bell driver.answered taken side (turn_on setup processor) =
-    laws.did setup words driver side taken (record { active = holds.lane.in_step.number; next = holds.lane.in_step.next })
-    (record { first = holds.cell0.passed.home; second = holds.cell1.passed.home; third = holds.cell2.passed.home })
-    (record {
-      first = λ even. front_even far.first.taken side.first.handed holds.cell0.passed.front even;
-      second = λ even. front_even far.second.taken side.second.handed holds.cell1.passed.front even;
-      third = λ even. front_even far.third.taken side.third.handed holds.cell2.passed.front even;
-    }) in
+    let did : DidBy setup words.bell driver.answered (taken_of processor) side (turn_on setup processor) = turn_did laws.did pace trace cpu at asking first second third processor holds in
     record {
       lane = laws.turn setup words driver side made holds.size (
         (λ odd. front_odd far.first.taken side.first.handed holds.cell0.passed.front odd),

@@ -1,0 +1,4 @@
+pub mod Own
+pub mod Taking
+pub mod Measure
+pub mod Finishing
