@@ -1,11 +1,12 @@
 -- The laws of a run: what holds of it under every schedule, at both paces.
 use Rattle.std.specs.Prelude.{◌≡◌, ℕ, ◌+◌, ◌<◌, ◌≤◌, true, List, [], ◌∷◌, ◌++◌, length, map, slice_get, Some}
+use Rattle.std.specs.List.{AllByRecursion}
 use Rattle.sample_key.specs.Marks.{due}
 use Rattle.sample_key.specs.declared.losses.Pace.{Pace}
 use Rattle.sample_key.specs.declared.losses.Pace.TheVariants.{Exact}
 use Rattle.trace_model.specs.Parts.{part_of}
 use Rattle.trace_model.specs.Recording.{Recording}
-use Rattle.trace_model.specs.Streams.{IsStream, stream_of, records_in}
+use Rattle.trace_model.specs.Streams.{IsStream, names_below, stream_of, records_in}
 use Rattle.trace_model.specs.declared.limits.TheConstants.{MOST_CPUS, MOST_RECORDS, MOST_PARTS}
 use Rattle.trace_model.specs.declared.notices.Step.{Step}
 use Rattle.driver_model.specs.Lists.{AllOf}
@@ -27,6 +28,7 @@ pub record IsFit (trace : Recording) : Type 0 where
   pub records : length (records_in trace) ≤ MOST_RECORDS
   pub parts : last_part (records_in trace) ≤ MOST_PARTS
   pub streams : (cpu : ℕ) → IsStream (length (records_in trace)) (stream_of cpu trace)
+  pub named : AllByRecursion (names_below trace.cpus) trace.lines
 
 -- the statistics of a run
 abbrev pub stats_of : System → List Stats

@@ -190,12 +190,12 @@ rounds zero trace = []
 rounds (suc more) trace = round trace ++ rounds more trace
 
 -- how many samples a trace has
-abbrev pub samples_in : Recording → ℕ
-samples_in trace = sum_by (λ cpu. length (stream_of cpu trace)) (cpus_of trace)
+abbrev pub sample_count : Recording → ℕ
+sample_count trace = sum_by (λ cpu. length (stream_of cpu trace)) (cpus_of trace)
 
 -- enough rounds for every trace
 abbrev pub enough_rounds : Recording → ℕ
-enough_rounds trace = samples_in trace + 4 * length (records_in trace) + 8
+enough_rounds trace = sample_count trace + 4 * length (records_in trace) + 8
 
 -- the run of a trace: the steps of its schedule, and then rounds
 abbrev pub reference_run : Pace → Recording → ℕ → System

@@ -23,7 +23,7 @@ use Rattle.driver_laws.proofs.Parts.{all_each}
 use Rattle.driver_laws.proofs.Marks.{due_most}
 use Rattle.database_model.specs.Runs.{Drained}
 use Rattle.run_model.specs.Daemon.{Daemon, Advancing, needs_flush, flush_before, is_flushed, answering, reaches, first_waiting, move, ask, settle, go_on, begin, advance}
-use Rattle.run_model.specs.Running.{Processor, System, setup_of, turn_on, turned, rung, rung_if, words_of, cpus_of, advance_in, after_advance, start, acts, after_step, after_steps, round, rounds, samples_in}
+use Rattle.run_model.specs.Running.{Processor, System, setup_of, turn_on, turned, rung, rung_if, words_of, cpus_of, advance_in, after_advance, start, acts, after_step, after_steps, round, rounds, sample_count}
 use Rattle.run_model.specs.Shares.{drains_of}
 use Rattle.run_laws.specs.Laws.{IsFit, run_so_far}
 use Rattle.run_laws.proofs.Driven.{DriverLaws}
@@ -360,7 +360,7 @@ finishes going trace first_epoch (suc count) system fit holds home few =
 
 -- from any moment of a run one round more
 pub rounds_end : GoingOn → (trace : Recording) (first_epoch count : ℕ) (system : System) → IsFit trace → SystemHolds Free trace first_epoch system
-    → samples_in trace + 2 * length (records_in trace) + 3 ≤ count → (after_steps Free trace system (rounds count trace)).daemon.finished ≡ true
+    → sample_count trace + 2 * length (records_in trace) + 3 ≤ count → (after_steps Free trace system (rounds count trace)).daemon.finished ≡ true
 rounds_end going trace first_epoch zero system fit holds enough = absurd (omega arith)
 rounds_end going trace first_epoch (suc count) system fit holds enough =
     let next = after_steps Free trace system (round trace) in
@@ -378,7 +378,7 @@ rounds_end going trace first_epoch (suc count) system fit holds enough =
         (round_home going trace first_epoch system fit e holds) few
 
 -- whatever the schedule did
-pub run_ends : GoingOn → (trace : Recording) (first_epoch count : ℕ) (steps : List Step) → IsFit trace → samples_in trace + 2 * length (records_in trace) + 3 ≤ count
+pub run_ends : GoingOn → (trace : Recording) (first_epoch count : ℕ) (steps : List Step) → IsFit trace → sample_count trace + 2 * length (records_in trace) + 3 ≤ count
     → (run_so_far Free trace first_epoch (steps ++ rounds count trace)).daemon.finished ≡ true
 run_ends going trace first_epoch count steps fit enough =
     ap (λ (s : System). s.daemon.finished) (steps_append Free trace (start trace first_epoch) steps (rounds count trace))

@@ -7,7 +7,7 @@ use Rattle.std.proofs.lemmas.List.Sums.{sum_by-cons}
 use Rattle.trace_model.specs.Recording.{Recording}
 use Rattle.trace_model.specs.Streams.{stream_of, records_in}
 use Rattle.run_model.specs.Daemon.{Daemon}
-use Rattle.run_model.specs.Running.{Processor, System, samples_in}
+use Rattle.run_model.specs.Running.{Processor, System, sample_count}
 
 -- the samples that these processors, numbered from here on, have not taken or lost
 abbrev pub left_from : Recording → ℕ → List Processor → ℕ
@@ -64,8 +64,8 @@ moves_most trace daemon =
     cond_both daemon.asking 0 1 (λ (n : ℕ). 2 * (length (records_in trace) - daemon.applied) + n ≤ 2 * length (records_in trace) + 1) (λ e. omega arith) (λ e. omega arith)
 
 pub most_left : (trace : Recording) (system : System) → length system.processors ≡ trace.cpus
-    → left_of trace system ≤ samples_in trace + 2 * length (records_in trace) + 1
+    → left_of trace system ≤ sample_count trace + 2 * length (records_in trace) + 1
 most_left trace system count =
-    let all : left_from trace 0 system.processors ≤ samples_in trace =
+    let all : left_from trace 0 system.processors ≤ sample_count trace =
     subst (λ (n : ℕ). left_from trace 0 system.processors ≤ sum_by (λ k. length (stream_of k trace)) (range_with_len 0 n)) count (left_most trace 0 system.processors) in
     omega (arith, moves_most trace system.daemon)

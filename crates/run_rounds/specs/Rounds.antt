@@ -4,14 +4,14 @@ use Rattle.sample_key.specs.declared.losses.Pace.TheVariants.{Free}
 use Rattle.trace_model.specs.Recording.{Recording}
 use Rattle.trace_model.specs.Streams.{records_in}
 use Rattle.trace_model.specs.declared.notices.Step.{Step}
-use Rattle.run_model.specs.Running.{rounds, samples_in, reference_run, record_of}
+use Rattle.run_model.specs.Running.{rounds, sample_count, reference_run, record_of}
 use Rattle.run_model.specs.Validity.{IsValidRun, StatisticsAgree}
 use Rattle.run_laws.specs.Laws.{IsFit, run_so_far, stats_of}
 
 -- A round for each sample, two for each record and three more finish a run.
 abbrev pub RoundsFinish : Type 0
 RoundsFinish = (trace : Recording) (first_epoch count : ℕ) (steps : List Step) → IsFit trace
-    → samples_in trace + 2 * length (records_in trace) + 3 ≤ count
+    → sample_count trace + 2 * length (records_in trace) + 3 ≤ count
     → (run_so_far Free trace first_epoch (steps ++ rounds count trace)).daemon.finished ≡ true
 
 -- The run of a trace is finished, and its record is valid with statistics that agree.
