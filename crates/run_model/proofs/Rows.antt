@@ -171,6 +171,10 @@ second_look_words : map (λ processor. processor.side.first.read ∷ processor.s
     ≡ (1 ∷ 2 ∷ []) ∷ []
 second_look_words = refl
 
+second_look_given : map (λ processor. processor.far.given) (after 8 second_look).processors
+    ≡ Some (record { first = 0; second = 1; third = 0 }) ∷ []
+second_look_given = refl
+
 second_look_stats : stats_in (run_of second_look) ≡ counts 0 4 3 0 0 ∷ []
 second_look_stats = refl
 
@@ -271,3 +275,17 @@ waiting_buffer = refl
 
 waiting_moved : advance_answer waiting (after 10 waiting) ≡ Moved
 waiting_moved = refl
+
+-- a flush waits for the second buffer too
+abbrev pub waiting_second : Recording
+waiting_second = recording 1 1 1 [] (five ++ sample (at_pc 0x1014 refl) ∷ Rec Drain ∷ [])
+    (replicate 6 (Lane 0) ++ Advance ∷ Lane 0 ∷ Poll 0 2 ∷ Poll 0 0 ∷ Advance ∷ Poll 0 1 ∷ Advance ∷ [])
+
+second_waits : advance_answer waiting_second (after 10 waiting_second) ≡ Waiting 0
+second_waits = refl
+
+second_buffer : is_waiting 1 (after 11 waiting_second).processors ≡ true
+second_buffer = refl
+
+second_moved : advance_answer waiting_second (after 12 waiting_second) ≡ Moved
+second_moved = refl
