@@ -82,7 +82,7 @@ in_time pace records first second t complete asked = record {
 }
 
 -- what is owed climbs
-owed_climbs : (pace : Pace) (records : List Record) → ClimbsFrom 0 (answers_owed pace records)
+pub owed_climbs : (pace : Pace) (records : List Record) → ClimbsFrom 0 (answers_owed pace records)
 owed_climbs pace records = flushes_climb pace 0 0 records (flush_before (length records)) (omega arith) (omega arith)
 
 -- one processor

@@ -1,0 +1,4 @@
+pub mod Sums
+pub mod Upto
+pub mod Places
+pub mod Plainly
