@@ -1,5 +1,5 @@
 -- Entries and samples that agree at each position agree where each is counted by a test of its own position.
-use Rattle.std.proofs.Common.{◌≡◌, ℕ, zero, suc, ◌+◌, ◌<◌, ◌≤◌, List, [], ◌∷◌, ◌++◌, refl, sym, ◌∙◌, ap, subst, arith, Bool, true, false, if◌then◌else◌, leb, leb-true, leb-false, le-leb}
+use Rattle.std.proofs.Common.{◌≡◌, ℕ, suc, ◌+◌, ◌≤◌, List, [], ◌∷◌, ◌++◌, refl, ◌∙◌, ap, arith, Bool, true, false, if◌then◌else◌, leb, leb-true, leb-false, le-leb}
 use Rattle.std.proofs.lemmas.Bool.{cond-true, cond-false}
 use Rattle.sample_key.specs.Counted.{Counted, entry}
 use Rattle.sample_key.specs.Marks.{MarksUpTo}
@@ -88,8 +88,10 @@ placed_next tests most (d ∷ ds) = by_place (leb d.at most) (leb d.at (suc most
   where
     test : Key → Bool
     test = tests (suc most)
+
     value : ℕ
     value = counted_where (tests d.at) d.batch.entries
+
     by_place : (t u : Bool) → leb d.at most ≡ t → leb d.at (suc most) ≡ u
         → placed_upto tests (suc most) ds + counted_where test (entries_upto most ds) ≡ placed_upto tests most ds + counted_where test (entries_upto (suc most) ds)
         → placed_upto tests (suc most) (d ∷ ds) + counted_where test (entries_upto most (d ∷ ds)) ≡ placed_upto tests most (d ∷ ds) + counted_where test (entries_upto (suc most) (d ∷ ds))
@@ -116,8 +118,10 @@ marked_next tests most (s ∷ ss) = by_mark (leb s.mark most) (leb s.mark (suc m
   where
     test : Key → Bool
     test = tests (suc most)
+
     value : ℕ
     value = if tests s.mark s.key then 1 else 0
+
     by_mark : (t u : Bool) → leb s.mark most ≡ t → leb s.mark (suc most) ≡ u
         → marked_upto tests (suc most) ss + counted_where test (samples_upto most ss) ≡ marked_upto tests most ss + counted_where test (samples_upto (suc most) ss)
         → marked_upto tests (suc most) (s ∷ ss) + counted_where test (samples_upto most (s ∷ ss)) ≡ marked_upto tests most (s ∷ ss) + counted_where test (samples_upto (suc most) (s ∷ ss))

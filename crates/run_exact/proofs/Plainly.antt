@@ -1,14 +1,13 @@
 -- At the exact pace the record counts each place as the trace's samples lie there.
-use Rattle.std.proofs.Common.{◌≡◌, ◌≢◌, ℕ, zero, suc, ◌+◌, ◌*◌, ◌/◌, ◌<◌, ◌≤◌, List, [], ◌∷◌, ◌++◌, length, take, map, refl, sym, ◌∙◌, ap, subst, arith, inl, inr, ◌⊎◌, Bool, true, false, cond, if◌then◌else◌, Some, None, Option, eqb, eqb-true, eq-eqb, append_assoc, length-append}
-use Rattle.std.specs.Prelude.{count_by, slice_index_or}
+use Rattle.std.proofs.Common.{◌≡◌, ◌≢◌, ℕ, zero, suc, ◌+◌, ◌/◌, ◌<◌, ◌≤◌, List, [], ◌∷◌, ◌++◌, length, take, refl, sym, ◌∙◌, ap, subst, arith, inl, inr, Bool, false, cond, if◌then◌else◌, Some, None, Option, eqb, eqb-true, eq-eqb, append_assoc, length-append}
+use Rattle.std.specs.Prelude.{count_by}
 use Rattle.std.specs.List.{AllByRecursion}
 use Rattle.std.proofs.Math.Seq.{take-append_seam}
 use Rattle.std.proofs.lemmas.Bool.{cond_both, cond-true, cond-false, eqb-false}
 use Rattle.std.proofs.lemmas.List.Sums.{sum_by-cons}
-use Rattle.sample_key.specs.Bags.{same_key, weight, times, lost_below}
-use Rattle.sample_key.specs.Counted.{Counted}
+use Rattle.sample_key.specs.Bags.{weight}
 use Rattle.sample_key.specs.Events.{code_of, event_of_code}
-use Rattle.sample_key.specs.Marks.{due, IsRising, MarksUpTo}
+use Rattle.sample_key.specs.Marks.{due}
 use Rattle.sample_key.specs.declared.events.Event.{Event}
 use Rattle.sample_key.specs.declared.events.Event.TheVariants.{Cycles, Imiss, Dmiss, Branchmp}
 use Rattle.sample_key.specs.declared.keys.Key.{Key}
@@ -66,7 +65,7 @@ lies_same spot epoch images records at a b same =
     let parts = same_parts a b same in
     ap (λ (s : Spot). same_spot spot s)
     (spot_same epoch images a b (place_at records at a.pid a.pc) (event_same a.event b.event parts.2) parts.1
-        ∙ λ i. spot_at epoch images b (place_at records at (parts.0 i) (parts.1 i)))
+    ∙ λ i. spot_at epoch images b (place_at records at (parts.0 i) (parts.1 i)))
 
 -- at the exact pace each record owes a flush, and the close is owed
 exact_owes : (number k close : ℕ) (records : List Record) → number ≤ k → k ≤ number + length records → close ≡ flush_before (number + length records)
@@ -102,7 +101,7 @@ share_agrees trace cpu most share fit valid none exact within key =
 agree_at : (trace : Recording) (cpu most : ℕ) (share : Share) (test : Key → Bool) → IsFit trace → IsValidShare Exact trace (stream_of cpu trace) share → share.losses ≡ []
     → AllOf (GoesUpToDue (stream_of cpu trace)) share.third → most ≤ length (records_in trace) → Respects test
     → counted_where test (entries_upto most share.first) + counted_where test (entries_upto most share.second) + counted_where test (entries_upto most share.third)
-        ≡ counted_where test (samples_upto most (stream_of cpu trace))
+    ≡ counted_where test (samples_upto most (stream_of cpu trace))
 agree_at trace cpu most share test fit valid none exact within same =
     omega (
       arith,
@@ -161,13 +160,13 @@ over_one zero k v f g within here others = absurd (omega arith)
 over_one (suc n) k v f g within here others =
     cond_both (eqb k n) tt tt (λ (z : Unit {0}). over (suc n) f ≡ v + over (suc n) g)
     (λ t.
-        let same : k ≡ n = eqb-true k n t in
-        let at_n : f n ≡ v + g n = subst (λ (m : ℕ). f m ≡ v + g m) same here in
-        omega (arith, at_n, over_same n f g (λ j l. others j (omega arith) (λ e. omega arith))))
+    let same : k ≡ n = eqb-true k n t in
+    let at_n : f n ≡ v + g n = subst (λ (m : ℕ). f m ≡ v + g m) same here in
+    omega (arith, at_n, over_same n f g (λ j l. others j (omega arith) (λ e. omega arith))))
     (λ t.
-        let apart : k ≢ n = eqb-false k n t in
-        let at_n : f n ≡ g n = others n (omega arith) (λ e. apart (sym e)) in
-        omega (arith, at_n, over_one n k v f g (omega arith) here (λ j l. others j (omega arith))))
+    let apart : k ≢ n = eqb-false k n t in
+    let at_n : f n ≡ g n = others n (omega arith) (λ e. apart (sym e)) in
+    omega (arith, at_n, over_one n k v f g (omega arith) here (λ j l. others j (omega arith))))
 
 -- what a processor's drains count
 abbrev pub three : (ℕ → Key → Bool) → List Drained → ℕ → ℕ
@@ -207,15 +206,15 @@ placed_by_cpu tests trace (d ∷ ds) own =
       arith,
       placed_by_cpu tests trace ds own.1,
       over_one trace.cpus cpu (counted_where (tests d.at) d.batch.entries) (three tests (d ∷ ds)) (three tests ds) own.0.0
-      (three_own tests cpu d.batch.note.cell d ds own.0.1 (refl, refl))
-      (λ j l apart. three_other tests cpu j d ds refl (λ e. apart (sym e))),
+          (three_own tests cpu d.batch.note.cell d ds own.0.1 (refl, refl))
+          (λ j l apart. three_other tests cpu j d ds refl (λ e. apart (sym e))),
     )
 
 -- each sample is of one processor
 marked_by_cpu : (spot : Spot) (first_epoch cpus : ℕ) (images : List (List ℕ)) (records before : List Record) (lines : List Line) → records ≡ before ++ records_from lines
     → AllByRecursion (names_below cpus) lines
     → count_by (same_spot spot) (spots_from first_epoch images before lines)
-        ≡ over cpus (λ cpu. marked (tests_of spot first_epoch images records) (stream_from cpu (length before) lines))
+    ≡ over cpus (λ cpu. marked (tests_of spot first_epoch images records) (stream_from cpu (length before) lines))
 marked_by_cpu spot first_epoch cpus images records before [] all named =
     sym (over_same cpus (λ cpu. marked (tests_of spot first_epoch images records) (stream_from cpu (length before) [])) (λ k. 0) (λ k l. refl) ∙ over_none cpus)
 marked_by_cpu spot first_epoch cpus images records before (Sample cpu key ∷ lines) all named =
@@ -244,15 +243,18 @@ marked_by_cpu spot first_epoch cpus images records before (Rec notice ∷ lines)
     let size : length more ≡ length before + 1 = length-append before (notice ∷ []) in
     marked_by_cpu spot first_epoch cpus images records more lines all_more named.1
     ∙ over_same cpus (λ cpu. marked tests (stream_from cpu (length more) lines)) (λ cpu. marked tests (stream_from cpu (length before + 1) lines))
-      (λ k l. ap (λ (n : ℕ). marked tests (stream_from k n lines)) size)
+    (λ k l. ap (λ (n : ℕ). marked tests (stream_from k n lines)) size)
 
 -- a drain's own epoch is that of its position
 drained_is : (spot : Spot) (first_epoch : ℕ) (images : List (List ℕ)) (records : List Record) (drains : List Drained) → AllOf (IsPlaced records first_epoch) drains
     → drained_at spot images records drains ≡ placed (tests_of spot first_epoch images records) drains
 drained_is spot first_epoch images records [] all = refl
 drained_is spot first_epoch images records (d ∷ ds) all =
-    omega (arith, drained_is spot first_epoch images records ds all.1,
-        ap (λ (n : ℕ). counted_where (lies_at spot n images records d.at) d.batch.entries) all.0.epoch)
+    omega (
+      arith,
+      drained_is spot first_epoch images records ds all.1,
+      ap (λ (n : ℕ). counted_where (lies_at spot n images records d.at) d.batch.entries) all.0.epoch,
+    )
 
 pub exact_plain : (trace : Recording) (kept : Recorded) → IsFit trace → IsValidRun Exact trace kept → IsExactRecord trace kept → (spot : Spot)
     → drained_at spot trace.images (records_in trace) kept.drains ≡ count_by (same_spot spot) (spots_in trace kept.first_epoch)
@@ -263,15 +265,15 @@ exact_plain trace kept fit valid exact spot =
     let at_all : AllOf (λ d. d.at ≤ last) kept.drains =
     all_map (IsPlaced records kept.first_epoch) (λ d. d.at ≤ last) (λ d p. p.at) kept.drains valid.drains.placed in
     let each : (cpu : ℕ) → cpu < trace.cpus → three tests kept.drains cpu ≡ marked tests (stream_of cpu trace) = λ cpu within.
-        omega (
-          arith,
-          placed_all tests last (drains_of cpu 0 kept.drains) (all_of_cell (λ d. d.at ≤ last) cpu 0 kept.drains at_all),
-          placed_all tests last (drains_of cpu 1 kept.drains) (all_of_cell (λ d. d.at ≤ last) cpu 1 kept.drains at_all),
-          placed_all tests last (drains_of cpu 2 kept.drains) (all_of_cell (λ d. d.at ≤ last) cpu 2 kept.drains at_all),
-          marked_all tests last (stream_of cpu trace) (fit.streams cpu).marks,
-          all_agree trace cpu last (share_of kept cpu) tests fit (valid.shares cpu within) (exact.losses cpu within) (exact.due_then cpu within) (omega arith)
+    omega (
+      arith,
+      placed_all tests last (drains_of cpu 0 kept.drains) (all_of_cell (λ d. d.at ≤ last) cpu 0 kept.drains at_all),
+      placed_all tests last (drains_of cpu 1 kept.drains) (all_of_cell (λ d. d.at ≤ last) cpu 1 kept.drains at_all),
+      placed_all tests last (drains_of cpu 2 kept.drains) (all_of_cell (λ d. d.at ≤ last) cpu 2 kept.drains at_all),
+      marked_all tests last (stream_of cpu trace) (fit.streams cpu).marks,
+      all_agree trace cpu last (share_of kept cpu) tests fit (valid.shares cpu within) (exact.losses cpu within) (exact.due_then cpu within) (omega arith)
           (λ n. lies_same spot (epoch_after kept.first_epoch (take n records)) trace.images records n),
-        ) in
+    ) in
     drained_is spot kept.first_epoch trace.images records kept.drains valid.drains.placed
     ∙ placed_by_cpu tests trace kept.drains valid.drains.of_trace
     ∙ over_same trace.cpus (three tests kept.drains) (λ cpu. marked tests (stream_of cpu trace)) each

@@ -1,5 +1,5 @@
 -- Lists that agree key by key agree on every test that does not tell equal keys apart.
-use Rattle.std.proofs.Common.{◌≡◌, ℕ, zero, suc, ◌+◌, ◌<◌, ◌≤◌, List, [], ◌∷◌, ◌++◌, length, refl, sym, ◌∙◌, ap, subst, arith, Bool, true, false, if◌then◌else◌}
+use Rattle.std.proofs.Common.{◌≡◌, ℕ, zero, suc, ◌+◌, ◌≤◌, List, [], ◌∷◌, ◌++◌, length, refl, sym, ◌∙◌, ap, arith, Bool, true, false, if◌then◌else◌}
 use Rattle.std.proofs.lemmas.Bool.{cond_both, cond-true, cond-false}
 use Rattle.sample_key.specs.Bags.{same_key, counted, weight}
 use Rattle.sample_key.specs.Counted.{Counted}
@@ -101,8 +101,8 @@ agree_by test same (suc fuel) (e ∷ es) ys few agree =
     let rest : counted_where test (without key (e ∷ es)) ≡ counted_where test (without key ys) =
     agree_by test same fuel (without key (e ∷ es)) (without key ys) (omega (arith, without_shorter key es))
     (λ k. cond_both (same_key key k) tt tt (λ (z : Unit {0}). weight k (without key (e ∷ es)) ≡ weight k (without key ys))
-        (λ t. without_same key k (e ∷ es) t ∙ sym (without_same key k ys t))
-        (λ t. without_other key k (e ∷ es) t ∙ agree k ∙ sym (without_other key k ys t))) in
+    (λ t. without_same key k (e ∷ es) t ∙ sym (without_same key k ys t))
+    (λ t. without_other key k (e ∷ es) t ∙ agree k ∙ sym (without_other key k ys t))) in
     omega (arith, split test same key (e ∷ es), split test same key ys, w, rest)
 
 pub sums_agree : (test : Key → Bool) → Respects test → (xs ys : List Counted) → ((k : Key) → weight k xs ≡ weight k ys) → counted_where test xs ≡ counted_where test ys

@@ -1,7 +1,7 @@
 -- At the exact pace the entries drained by a position are, key by key, the samples that were due there.
-use Rattle.std.proofs.Common.{◌≡◌, ℕ, zero, suc, ◌+◌, ◌*◌, ◌<◌, ◌≤◌, List, [], ◌∷◌, ◌++◌, length, take, map, refl, sym, ◌∙◌, ap, subst, arith, inl, inr, ◌⊎◌, Bool, true, false, if◌then◌else◌, leb, leb-true, leb-false, le-leb}
-use Rattle.std.proofs.lemmas.Bool.{cond_both, cond-true, cond-false, lt-leb}
-use Rattle.sample_key.specs.Bags.{same_key, once, weight, times, batched, batched_upto, lost_below}
+use Rattle.std.proofs.Common.{◌≡◌, ℕ, zero, suc, ◌+◌, ◌<◌, ◌≤◌, List, [], ◌∷◌, ◌++◌, take, refl, sym, ◌∙◌, ap, subst, arith, inl, inr, Bool, true, false, if◌then◌else◌, leb, leb-true, leb-false, le-leb}
+use Rattle.std.proofs.lemmas.Bool.{cond-true, cond-false, lt-leb}
+use Rattle.sample_key.specs.Bags.{once, weight, times, batched, batched_upto, lost_below}
 use Rattle.sample_key.specs.Counted.{Counted, entry}
 use Rattle.sample_key.specs.Marks.{due, RisesFrom}
 use Rattle.sample_key.specs.Sent.{Sent}
@@ -45,6 +45,7 @@ upto_most key most samples (d ∷ ds) all = by_place (leb d.at most) refl (upto_
   where
     count : ℕ
     count = due samples most
+
     by_place : (t : Bool) → leb d.at most ≡ t → weight key (entries_upto most ds) ≤ batched_upto key count (batches_in ds)
         → weight key (entries_upto most (d ∷ ds)) ≤ batched_upto key count (batches_in (d ∷ ds))
     by_place true e rest =
@@ -67,7 +68,7 @@ flush_least : (key : Key) (most least : ℕ) (samples : List Marked) (first seco
     → EachFrom (IsWholeFlush samples (batches_in first) (batches_in second) losses) done (batches_in third) → AllOf (IsTakenInTime first second) third
     → AllOf (GoesUpToDue samples) third → ClimbsFrom least (answers_in third) → IsAmong (answers_in third) (flush_before most)
     → times key (take (due samples most) samples)
-        ≤ batched key done + weight key (entries_upto most first) + weight key (entries_upto most second) + weight key (entries_upto most third)
+    ≤ batched key done + weight key (entries_upto most first) + weight key (entries_upto most second) + weight key (entries_upto most third)
 flush_least key most least samples first second losses done [] none flushes times exact climbs some = absurd some
 flush_least key most least samples first second losses done (t ∷ ts) none flushes in_time exact climbs (inl e) =
     let now : flush_before t.at ≡ flush_before most = sym in_time.0.now ∙ e in

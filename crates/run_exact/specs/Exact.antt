@@ -1,6 +1,6 @@
 -- The exact pace: a valid record counts each place as often as samples of the trace lie there, each
 -- by the records that stand before it.
-use Rattle.std.specs.Prelude.{◌≡◌, ℕ, ◌+◌, ◌<◌, Bool, if◌then◌else◌, List, [], ◌∷◌, length, count_by}
+use Rattle.std.specs.Prelude.{◌≡◌, ℕ, ◌+◌, ◌<◌, Bool, if◌then◌else◌, List, [], ◌∷◌, count_by}
 use Rattle.sample_key.specs.Counted.{Counted}
 use Rattle.sample_key.specs.declared.keys.Key.{Key}
 use Rattle.sample_key.specs.declared.losses.Pace.TheVariants.{Exact}
@@ -44,7 +44,7 @@ pub record IsExactRecord (trace : Recording) (kept : Recorded) : Type 0 where
 abbrev pub CountsPlainly : Recording → Recorded → Type 0
 CountsPlainly trace kept = (spot : Spot)
     → drained_at spot trace.images (records_in trace) kept.drains
-        ≡ count_by (same_spot spot) (spots_in trace kept.first_epoch)
+    ≡ count_by (same_spot spot) (spots_in trace kept.first_epoch)
 
 -- So does each valid record of the exact pace.
 abbrev pub ExactRunsArePlain : Type 0

@@ -1,8 +1,8 @@
 -- What is known where threads are joined makes the record valid, and after a kept fault the drains of a run cut short.
-use Rattle.std.proofs.Common.{◌≡◌, ℕ, zero, suc, ◌+◌, ◌*◌, ◌%◌, ◌<◌, ◌≤◌, List, [], ◌∷◌, ◌++◌, length, take, drop, map, refl, sym, ◌∙◌, ap, subst, arith, inl, inr, ◌⊎◌, Bool, true, false, leb, leb-true, leb-false, append_assoc, length-append, length-take}
+use Rattle.std.proofs.Common.{◌≡◌, ℕ, ◌+◌, ◌%◌, ◌<◌, ◌≤◌, List, [], ◌∷◌, ◌++◌, length, take, drop, refl, sym, ◌∙◌, ap, subst, arith, inl, inr, ◌⊎◌, leb, leb-true, leb-false, append_assoc, length-append, length-take}
 use Rattle.std.proofs.lemmas.Bool.{cond_both}
 use Rattle.std.proofs.lemmas.List.{take-append-drop}
-use Rattle.sample_key.specs.Bags.{weight, times, batched, batched_upto, lost_below}
+use Rattle.sample_key.specs.Bags.{batched, batched_upto, lost_below}
 use Rattle.sample_key.specs.Sent.{Sent}
 use Rattle.sample_key.specs.declared.keys.Key.{Key}
 use Rattle.sample_key.specs.declared.losses.Loss.{Loss}
@@ -14,7 +14,7 @@ use Rattle.driver_model.specs.Lists.{EachFrom, AllOf, SomeOf}
 use Rattle.driver_model.specs.Table.{FitsTable}
 use Rattle.driver_model.specs.Sides.{Side}
 use Rattle.driver_model.specs.Driver.{Driver}
-use Rattle.driver_model.specs.Invariant.{DriverInvariant, InOrder, FullOrCut}
+use Rattle.driver_model.specs.Invariant.{InOrder, FullOrCut}
 use Rattle.driver_laws.proofs.Lists.{all_map, all_both}
 use Rattle.driver_laws.proofs.Parts.{all_each}
 use Rattle.database_model.specs.Runs.{Drained, Recorded}
@@ -25,7 +25,7 @@ use Rattle.run_model.specs.Validity.{AreDrains, answers_in, answers_owed, flushe
 use Rattle.run_laws.proofs.Basics.{all_map_of}
 use Rattle.run_laws.proofs.Owed.{answers_of, asked_before, flushes_append}
 use Rattle.run_laws.proofs.Endings.{IsOver, valid_over, agrees_over, answers_same, drained_facts, bounded_all, times_take}
-use Rattle.run_joins.specs.Joins.{IsAsked, Completes, AreCollected, IsJoined, IsCutShort, AreFirst, WasJoined, WasCutShort}
+use Rattle.run_joins.specs.Joins.{IsAsked, Completes, IsJoined, IsCutShort, AreFirst, WasJoined, WasCutShort}
 use Rattle.run_joins.proofs.Rising.{ClimbsFrom, IsAmong, among_above, same_climbs, front_climbs, answers_climb, flushes_climb}
 
 -- what all have, one among them has

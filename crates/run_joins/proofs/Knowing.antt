@@ -1,5 +1,5 @@
 -- What the daemon knows of its drains is kept by its doings.
-use Rattle.std.proofs.Common.{◌≡◌, ℕ, zero, suc, ◌+◌, ◌*◌, ◌%◌, ◌<◌, ◌≤◌, List, [], ◌∷◌, ◌++◌, length, take, map, refl, sym, ◌∙◌, ap, subst, arith, inl, inr, ◌⊎◌, Bool, true, false, ◌&&◌, if◌then◌else◌, Some, None, Option, eqb, leb, eqb-true, leb-true, append_assoc, length-append, length-take}
+use Rattle.std.proofs.Common.{◌≡◌, ℕ, ◌+◌, ◌%◌, ◌≤◌, List, [], ◌∷◌, ◌++◌, length, take, refl, sym, ◌∙◌, ap, subst, arith, inl, inr, Bool, true, false, if◌then◌else◌, Some, Option, eqb, leb, eqb-true, leb-true, length-append, length-take}
 use Rattle.std.specs.Prelude.{slice_get}
 use Rattle.std.proofs.lemmas.Bool.{cond_both, cond-true, cond-false}
 use Rattle.std.proofs.lemmas.List.{map-append, length-map, take-append-le}
@@ -8,12 +8,12 @@ use Rattle.sample_key.specs.declared.losses.Pace.{Pace}
 use Rattle.trace_model.specs.declared.notices.Record.{Record}
 use Rattle.driver_model.specs.Lists.{AllOf, SomeOf}
 use Rattle.driver_model.specs.Handover.{FarSide, WasRung, last_from, rung_of, far_took_buffer, far_took_table, far_gave_buffer, far_gave_table}
-use Rattle.driver_laws.proofs.Lists.{append-nil, all_push, all_map, all_append, some_push}
+use Rattle.driver_laws.proofs.Lists.{append-nil, all_push, all_map, some_push}
 use Rattle.database_model.specs.Runs.{Drained}
 use Rattle.run_model.specs.Daemon.{Daemon, needs_flush, in_force, flush_before, answering, reaches, is_flushed, drain_of, noted, move, rungs_before, rungs_of}
 use Rattle.run_model.specs.Shares.{batches_in}
 use Rattle.run_model.specs.Validity.{flushes_of, answers_owed}
-use Rattle.run_model.specs.Books.{AsksInNeed, StandsWell}
+use Rattle.run_model.specs.Books.{StandsWell}
 use Rattle.run_laws.proofs.Basics.{all_take, last_push}
 use Rattle.run_laws.proofs.Owed.{asked_before, asked_more, asked_same, asked_all, owed_after, owed_now}
 use Rattle.run_laws.proofs.Draining.{both_parts}

@@ -1,7 +1,7 @@
 -- A run whose threads have ended: what is known of its processors and of the daemon's drains where
 -- they are joined, and that its record is valid then. No fact says in which order two cells were
 -- handed and taken.
-use Rattle.std.specs.Prelude.{◌≡◌, ℕ, ◌+◌, ◌%◌, ◌<◌, ◌≤◌, true, List, [], ◌++◌, length, take}
+use Rattle.std.specs.Prelude.{◌≡◌, ℕ, ◌%◌, ◌<◌, ◌≤◌, true, List, [], ◌++◌, length, take}
 use Rattle.sample_key.specs.Sent.{Sent}
 use Rattle.sample_key.specs.declared.losses.Pace.{Pace}
 use Rattle.trace_model.specs.Recording.{Recording}
@@ -17,8 +17,8 @@ use Rattle.run_model.specs.Running.{setup_of}
 use Rattle.run_model.specs.Shares.{Share, share_of, share_in, batches_in, AgreesWith}
 use Rattle.run_model.specs.Validity.{AreDrains, IsDueAt, IsValidShare, IsValidRun, IsPartialShare, IsPartialRun, flushes_of, answers_owed}
 
--- A table batch answers a value that was rung by the time that it was drained: an odd one is a flush
--- that was asked for by then, or the close.
+-- A table batch answers a value that was rung by the time that it was drained: an odd one is a
+-- flush that was asked for by then, or the close.
 pub record IsAsked (pace : Pace) (records : List Record) (drain : Drained) : Type 0 where
   pub owed : drain.batch.note.answers % 2 ≡ 1
       → SomeOf (λ value. value ≡ drain.batch.note.answers) (answers_owed pace records)
@@ -85,8 +85,8 @@ abbrev pub AreFirst : List Drained → List Sent → Type 0
 AreFirst drains handed = (rest : List Sent) × (batches_in drains ++ rest ≡ handed)
 
 -- One processor of a run that kept a fault while so many records were in force: what was drained
--- before is what its driver handed first, no batch before its samples were due, and each flush up to
--- there was complete before the next record. What the driver did later does not matter.
+-- before is what its driver handed first, no batch before its samples were due, and each flush up
+-- to there was complete before the next record. What the driver did later does not matter.
 pub record IsCutShort (pace : Pace) (trace : Recording) (cpu applied : ℕ) (driver : Driver)
     (side : Side) (share : Share) : Type 0 where
   pub within : applied ≤ length (records_in trace)

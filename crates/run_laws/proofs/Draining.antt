@@ -1,5 +1,5 @@
 -- The daemon's polls and rings keep what holds of a processor.
-use Rattle.std.proofs.Common.{◌≡◌, ℕ, zero, suc, ◌+◌, ◌*◌, ◌/◌, ◌%◌, ◌<◌, ◌≤◌, List, [], ◌∷◌, ◌++◌, length, take, drop, map, refl, sym, ◌∙◌, ap, subst, arith, inl, inr, ◌⊎◌, Bool, true, false, ◌&&◌, if◌then◌else◌, Some, None, Option, is_some, eqb, leb, length-append, eqb-true, eq-eqb, leb-true}
+use Rattle.std.proofs.Common.{◌≡◌, ℕ, ◌+◌, ◌/◌, ◌<◌, ◌≤◌, List, [], ◌∷◌, ◌++◌, length, refl, sym, ◌∙◌, ap, subst, arith, inl, inr, Bool, true, false, ◌&&◌, Some, None, Option, is_some, leb, length-append, leb-true}
 use Rattle.std.specs.Prelude.{slice_get}
 use Rattle.std.proofs.lemmas.List.{map-append, length-map}
 use Rattle.sample_key.specs.Marks.{due}
@@ -9,16 +9,16 @@ use Rattle.sample_key.specs.declared.losses.Pace.{Pace}
 use Rattle.trace_model.specs.Recording.{Recording}
 use Rattle.trace_model.specs.Streams.{stream_of, records_in}
 use Rattle.trace_model.specs.declared.notices.Record.{Record}
-use Rattle.driver_model.specs.Lists.{AllOf, SomeOf}
-use Rattle.driver_model.specs.Handover.{Given, FarSide, rung_of, WasRung, given_buffer, given_table, side_poll_buffer, side_poll_table}
+use Rattle.driver_model.specs.Lists.{AllOf}
+use Rattle.driver_model.specs.Handover.{Given, FarSide, WasRung, given_buffer, given_table, side_poll_buffer, side_poll_table}
 use Rattle.driver_model.specs.Invariant.{is_active}
 use Rattle.driver_laws.specs.Turns.{PollsKeep}
 use Rattle.driver_laws.proofs.Lists.{all_push, all_map, all_last, some_push}
 use Rattle.database_model.specs.Runs.{Drained}
 use Rattle.run_model.specs.Daemon.{needs_flush, in_force, flush_before, answering, reaches, is_flushed}
-use Rattle.run_model.specs.Running.{Processor, setup_of, counts_of, poll_buffer, poll_table, rung}
+use Rattle.run_model.specs.Running.{Processor, setup_of, poll_buffer, poll_table, rung}
 use Rattle.run_model.specs.Shares.{batches_in}
-use Rattle.run_model.specs.Validity.{IsDueAt, IsTakenInTime}
+use Rattle.run_model.specs.Validity.{IsTakenInTime}
 use Rattle.run_laws.proofs.Basics.{IsFront, front_some, not_longer, last_same, front_same, all_take, all_of_map, last_push, never_push}
 use Rattle.run_laws.proofs.Owed.{asked_before, answers_of, asked_below, asked_more, asked_same, unreached, answering_all}
 use Rattle.run_laws.proofs.Lanes.{bell_of, AllAnswered, AnsweredNow, Answering, IsReached, IsSettled, IsRungTo, LaneHolds, due_here, cell_drained, cell_later, timely_first, timely_second, settled_more, settled_next}

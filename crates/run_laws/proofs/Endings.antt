@@ -1,12 +1,11 @@
 -- The drains of a run that was cut short are valid, and where it is finished its record is, and the statistics agree.
-use Rattle.std.proofs.Common.{◌≡◌, ℕ, zero, suc, ◌+◌, ◌*◌, ◌/◌, ◌%◌, ◌<◌, ◌≤◌, List, [], ◌∷◌, ◌++◌, length, take, map, refl, sym, ◌∙◌, ap, subst, arith, inl, inr, ◌⊎◌, Bool, true, false, Some, None, Option, eqb, leb, ltb, eq-eqb, leb-true, length-append}
+use Rattle.std.proofs.Common.{◌≡◌, ℕ, zero, suc, ◌+◌, ◌<◌, ◌≤◌, List, [], ◌∷◌, ◌++◌, length, take, map, refl, sym, ◌∙◌, ap, subst, arith, inl, inr, Bool, true, false, Some, Option, leb, eq-eqb, leb-true, length-append}
 use Rattle.std.specs.Prelude.{slice_get, slice_index_or, IsSomeAnd}
 use Rattle.std.proofs.lemmas.Bool.{cond_both, leb-false}
 use Rattle.std.proofs.lemmas.List.{take_all, length-map, map-append}
-use Rattle.std.proofs.lemmas.Option.{slice_get_within, get_or_from_slice_get}
-use Rattle.sample_key.specs.Bags.{weight, times, once, batched, batched_upto, lost, lost_below, once_at}
+use Rattle.std.proofs.lemmas.Option.{get_or_from_slice_get}
+use Rattle.sample_key.specs.Bags.{weight, times, batched, batched_upto, lost, lost_below}
 use Rattle.sample_key.specs.Counted.{Counted}
-use Rattle.sample_key.specs.Marks.{due}
 use Rattle.sample_key.specs.Sent.{Sent}
 use Rattle.sample_key.specs.declared.keys.Key.{Key}
 use Rattle.sample_key.specs.declared.keys.Marked.{Marked}
@@ -15,27 +14,26 @@ use Rattle.sample_key.specs.declared.losses.Pace.{Pace}
 use Rattle.trace_model.specs.Recording.{Recording}
 use Rattle.trace_model.specs.Streams.{stream_of, records_in}
 use Rattle.trace_model.specs.declared.notices.Record.{Record}
-use Rattle.driver_model.specs.Lists.{EachFrom, Each, AllOf, SomeOf}
+use Rattle.driver_model.specs.Lists.{EachFrom, Each, AllOf}
 use Rattle.driver_model.specs.Table.{Table, FitsTable}
 use Rattle.driver_model.specs.Sides.{Side}
-use Rattle.driver_model.specs.Handover.{FarSide}
 use Rattle.driver_model.specs.Driver.{Setup, Driver}
-use Rattle.driver_model.specs.Invariant.{DriverInvariant, IsAtEnd, InOrder, FullOrCut, IsWholeFlush, IsExplained, handed_weight, handed_upto, table_entries, active_entries, entries_of, last_answer}
+use Rattle.driver_model.specs.Invariant.{DriverInvariant, IsAtEnd, InOrder, FullOrCut, IsWholeFlush, IsExplained, handed_upto, table_entries, active_entries, entries_of, last_answer}
 use Rattle.driver_model.specs.declared.plans.Stats.{Stats}
-use Rattle.driver_laws.proofs.Lists.{all_map, all_last, each_map}
+use Rattle.driver_laws.proofs.Lists.{all_map, all_last}
 use Rattle.driver_laws.proofs.Weights.{upto_le, below_le}
-use Rattle.database_model.specs.Runs.{Drained, Recorded}
+use Rattle.database_model.specs.Runs.{Drained}
 use Rattle.run_model.specs.Daemon.{flush_before, is_flushed, reaches}
 use Rattle.run_model.specs.Running.{Processor, System, setup_of, record_of}
-use Rattle.run_model.specs.Shares.{Share, batches_in, drains_of, share_in, share_of, drained_weight, drained_upto, AgreesWith}
-use Rattle.run_model.specs.Validity.{AreCountedOnce, AreLostSamples, FitsBuffer, AreInOrder, AreFullOrCut, IsDueAt, AreBounded, AreTimely, AreExplained, AreFlushes, answers_in, answers_owed, IsTakenInTime, AreAnswered, IsValidShare, IsValidRun, AreAnsweredSoFar, IsPartialShare, IsPartialRun, StatisticsAgree}
-use Rattle.run_model.specs.Books.{AsksInNeed, StandsWell}
+use Rattle.run_model.specs.Shares.{Share, batches_in, drains_of, share_in, share_of, AgreesWith}
+use Rattle.run_model.specs.Validity.{AreLostSamples, IsDueAt, answers_in, answers_owed, IsTakenInTime, AreAnswered, IsValidShare, IsValidRun, IsPartialShare, IsPartialRun, StatisticsAgree}
+use Rattle.run_model.specs.Books.{AsksInNeed}
 use Rattle.run_laws.specs.Laws.{stats_of}
 use Rattle.run_laws.proofs.Basics.{IsFront, last_same, front_same, all_of_map}
 use Rattle.run_laws.proofs.Owed.{asked_before, answers_of, asked_below, asked_all, owed_after, owed_now, answering_all, last_of_answers}
-use Rattle.run_laws.proofs.Lanes.{Answering, AllAnswered, LaneHolds}
+use Rattle.run_laws.proofs.Lanes.{Answering, LaneHolds}
 use Rattle.run_laws.proofs.Draining.{both_parts, flush_answered}
-use Rattle.run_laws.proofs.Systems.{HoldsAt, IsEnded, SystemHolds, map_got}
+use Rattle.run_laws.proofs.Systems.{IsEnded, SystemHolds, map_got}
 
 -- what stands at an index
 pub got_within : {A : Type 0} (xs : List A) (k : ℕ) → k < length xs → (x : A) × (slice_get xs k ≡ Some x)

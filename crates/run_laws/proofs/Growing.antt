@@ -1,12 +1,10 @@
 -- Steps only add drains at the end, so those of a part stand once it has ended.
-use Rattle.std.proofs.Common.{◌≡◌, ℕ, zero, suc, ◌+◌, ◌*◌, ◌<◌, ◌≤◌, List, [], ◌∷◌, ◌++◌, length, take, map, refl, sym, ◌∙◌, ap, subst, arith, Bool, true, false, Some, None, Option, cond, eqb, append_assoc}
-use Rattle.std.specs.Prelude.{slice_get, filter}
+use Rattle.std.proofs.Common.{◌≡◌, ℕ, zero, suc, ◌<◌, ◌≤◌, List, [], ◌∷◌, ◌++◌, take, map, refl, sym, ◌∙◌, ap, subst, arith, Some, None, Option, cond, eqb, append_assoc}
+use Rattle.std.specs.Prelude.{slice_get}
 use Rattle.std.specs.List.{count_by}
 use Rattle.std.proofs.lemmas.Bool.{cond_both, cond-false}
-use Rattle.std.proofs.lemmas.List.{take_all}
 use Rattle.std.proofs.lemmas.List.Elements.{filter-append}
 use Rattle.std.proofs.lemmas.List.Sums.{sum_by-take-le}
-use Rattle.std.proofs.lemmas.Option.{slice_get_within}
 use Rattle.sample_key.specs.Sent.{Sent}
 use Rattle.sample_key.specs.declared.losses.Pace.{Pace}
 use Rattle.trace_model.specs.Parts.{ends_part, part_of}
@@ -19,12 +17,11 @@ use Rattle.driver_model.specs.Lists.{AllOf}
 use Rattle.driver_model.specs.Handover.{FarSide}
 use Rattle.driver_laws.proofs.Lists.{append-nil, all_append, all_map}
 use Rattle.database_model.specs.Runs.{Drained}
-use Rattle.run_model.specs.Daemon.{Daemon, Advancing, needs_flush, drain_of, noted, move, ask, settle, go_on, begin, advance, first_waiting, flush_before}
+use Rattle.run_model.specs.Daemon.{Daemon, Advancing, needs_flush, drain_of, move, ask, settle, go_on, begin, advance, first_waiting, flush_before}
 use Rattle.run_model.specs.Running.{Processor, System, waiting_at, after_turn, noted_if, after_poll, acts, after_step, after_steps}
 use Rattle.run_model.specs.Shares.{drains_in_part}
 use Rattle.run_laws.specs.Laws.{Extends}
 use Rattle.run_laws.proofs.Basics.{eqb_apart}
-use Rattle.run_laws.proofs.Keeping.{count_next}
 
 pub extends_same : (before after : Daemon) → before.applied ≤ after.applied → after.drains ≡ before.drains → Extends before after
 extends_same before after on same = record { applied = on; more = []; drains = same ∙ sym (append-nil before.drains); later = tt }

@@ -1,5 +1,5 @@
 -- The daemon's books are kept by a batch that is noted and by every advance.
-use Rattle.std.proofs.Common.{◌≡◌, ℕ, zero, suc, ◌+◌, ◌*◌, ◌<◌, ◌≤◌, List, [], ◌∷◌, ◌++◌, length, take, get_or, map, refl, sym, ◌∙◌, ap, subst, arith, Bool, true, false, if◌then◌else◌, Some, None, Option}
+use Rattle.std.proofs.Common.{◌≡◌, ℕ, ◌+◌, ◌<◌, ◌≤◌, List, [], length, take, get_or, refl, sym, ◌∙◌, ap, subst, arith, Bool, if◌then◌else◌, Some, None, Option}
 use Rattle.std.specs.Prelude.{slice_get}
 use Rattle.std.specs.List.{count_by}
 use Rattle.std.proofs.lemmas.Bool.{cond_both}
@@ -7,17 +7,17 @@ use Rattle.std.proofs.lemmas.List.Sums.{count_by_more_yes, count_by_more_no}
 use Rattle.std.proofs.lemmas.Option.{slice_get_within, get_or_from_slice_get}
 use Rattle.sample_key.specs.Sent.{Sent}
 use Rattle.sample_key.specs.declared.losses.Pace.{Pace}
-use Rattle.trace_model.specs.Parts.{begins_epoch, epoch_after}
+use Rattle.trace_model.specs.Parts.{begins_epoch}
 use Rattle.trace_model.specs.Recording.{Recording}
 use Rattle.trace_model.specs.Streams.{records_in}
 use Rattle.trace_model.specs.declared.notices.Record.{Record}
-use Rattle.driver_model.specs.Lists.{AllOf, Each}
+use Rattle.driver_model.specs.Lists.{AllOf}
 use Rattle.driver_model.specs.Handover.{FarSide}
 use Rattle.driver_laws.proofs.Lists.{all_push, all_map, each_push}
 use Rattle.database_model.specs.Runs.{Drained}
 use Rattle.run_model.specs.Daemon.{Daemon, Advancing, new_daemon, needs_flush, drain_of, noted, move, ask, settle, go_on, begin, advance, first_waiting, flush_before}
-use Rattle.run_model.specs.Validity.{IsOfTrace, IsPlaced, AreDrains}
-use Rattle.run_model.specs.Books.{AsksInNeed, StandsWell, IsBefore, KeepsBooks}
+use Rattle.run_model.specs.Validity.{IsOfTrace, IsPlaced}
+use Rattle.run_model.specs.Books.{AsksInNeed, IsBefore, KeepsBooks}
 
 -- one record more of a kind, or none
 pub count_next : (test : Record → Bool) (records : List Record) (at : ℕ) (notice : Record) → slice_get records at ≡ Some notice

@@ -1,7 +1,6 @@
 -- What holds of one processor between any two steps of a run, and that the daemon's doings keep it.
-use Rattle.std.proofs.Common.{◌≡◌, ℕ, zero, suc, ◌+◌, ◌*◌, ◌/◌, ◌%◌, ◌<◌, ◌≤◌, List, [], ◌∷◌, ◌++◌, length, take, drop, map, refl, sym, ◌∙◌, ap, subst, arith, inl, inr, ◌⊎◌, Bool, true, false, if◌then◌else◌, Some, None, Option, is_some, eqb, leb, length-append, eqb-true, eq-eqb, leb-true, leb-false}
-use Rattle.std.specs.Prelude.{slice_get}
-use Rattle.std.proofs.lemmas.Bool.{cond_both, cond-true, cond-false}
+use Rattle.std.proofs.Common.{◌≡◌, ℕ, ◌+◌, ◌/◌, ◌<◌, ◌≤◌, List, [], ◌∷◌, ◌++◌, length, take, sym, ◌∙◌, ap, subst, arith, inl, inr, ◌⊎◌, Bool, true, false, if◌then◌else◌, Some, is_some, leb, leb-true, leb-false}
+use Rattle.std.proofs.lemmas.Bool.{cond_both}
 use Rattle.std.proofs.lemmas.List.{take-append-le, map-append}
 use Rattle.sample_key.specs.Marks.{due}
 use Rattle.sample_key.specs.Sent.{Sent}
@@ -10,21 +9,18 @@ use Rattle.sample_key.specs.declared.losses.Pace.{Pace}
 use Rattle.trace_model.specs.Recording.{Recording}
 use Rattle.trace_model.specs.Streams.{stream_of, records_in}
 use Rattle.trace_model.specs.declared.notices.Record.{Record}
-use Rattle.driver_model.specs.Lists.{AllOf, SomeOf}
-use Rattle.driver_model.specs.Sides.{Side, Slot}
-use Rattle.driver_model.specs.Handover.{Given, FarSide, FarSlot, rung_of, NeverFallsFrom, WasRung, given_buffer, given_table, side_poll_buffer, side_poll_table, side_called, far_took_buffer, far_took_table, far_gave_buffer, far_gave_table, far_rang}
-use Rattle.driver_model.specs.Driver.{Setup, Driver}
+use Rattle.driver_model.specs.Lists.{AllOf}
+use Rattle.driver_model.specs.Handover.{FarSide, rung_of, NeverFallsFrom, WasRung}
 use Rattle.driver_model.specs.Invariant.{DriverInvariant, is_active}
-use Rattle.driver_laws.specs.Turns.{PollsKeep}
-use Rattle.driver_laws.proofs.Lists.{all_push, all_map, all_both, all_last, some_push}
+use Rattle.driver_laws.proofs.Lists.{all_push, all_map, all_both}
 use Rattle.driver_laws.proofs.Marks.{due_later}
 use Rattle.database_model.specs.Runs.{Drained}
-use Rattle.run_model.specs.Daemon.{needs_flush, in_force, flush_before, answering, reaches, is_flushed}
-use Rattle.run_model.specs.Running.{Processor, setup_of, counts_of, words_of, poll_buffer, poll_table, rung}
+use Rattle.run_model.specs.Daemon.{in_force, flush_before}
+use Rattle.run_model.specs.Running.{Processor, setup_of, counts_of}
 use Rattle.run_model.specs.Shares.{batches_in}
 use Rattle.run_model.specs.Validity.{IsDueAt, IsTakenInTime}
-use Rattle.run_laws.proofs.Basics.{IsFront, IsPassed, front_some, not_longer, last_same, front_same, all_take_push, all_take, all_of_map, last_push, never_push}
-use Rattle.run_laws.proofs.Owed.{asked_before, answers_of, asked_below, asked_more, asked_same, unreached, answering_all}
+use Rattle.run_laws.proofs.Basics.{IsPassed, all_take_push}
+use Rattle.run_laws.proofs.Owed.{asked_before, answers_of}
 
 -- a batch is of this cell of this processor
 abbrev pub IsOf : ℕ → ℕ → Sent → Type 0

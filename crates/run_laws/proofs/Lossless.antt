@@ -1,13 +1,10 @@
 -- At the exact pace nothing is lost, and each flush goes up to just the samples that were due.
-use Rattle.std.proofs.Common.{◌≡◌, ℕ, ◌+◌, ◌*◌, ◌/◌, ◌≤◌, List, [], ◌∷◌, refl, sym, ◌∙◌, ap, subst, arith, Some}
+use Rattle.std.proofs.Common.{◌≡◌, ℕ, ◌/◌, ◌∙◌, ap, arith}
 use Rattle.sample_key.specs.Marks.{due}
 use Rattle.sample_key.specs.declared.losses.Pace.TheVariants.{Exact}
 use Rattle.trace_model.specs.Recording.{Recording}
 use Rattle.trace_model.specs.Streams.{stream_of}
-use Rattle.driver_model.specs.Lists.{AllOf}
 use Rattle.driver_laws.proofs.Lists.{all_both}
-use Rattle.database_model.specs.Runs.{Drained}
-use Rattle.run_model.specs.Daemon.{flush_before}
 use Rattle.run_model.specs.Running.{System}
 use Rattle.run_model.specs.Shares.{drains_of}
 use Rattle.run_model.specs.Validity.{IsTakenInTime}

@@ -1,5 +1,5 @@
 -- The flushes that are owed, and those that table batches answered.
-use Rattle.std.proofs.Common.{◌≡◌, ℕ, zero, suc, ◌+◌, ◌*◌, ◌%◌, ◌<◌, ◌≤◌, List, [], ◌∷◌, ◌++◌, length, take, drop, map, refl, sym, ◌∙◌, ap, subst, arith, inl, inr, ◌⊎◌, Bool, true, false, Some, None, Option, eqb, length-append, eqb-true, eq-eqb, append_assoc, cond, length-take}
+use Rattle.std.proofs.Common.{◌≡◌, ℕ, ◌+◌, ◌<◌, ◌≤◌, List, [], ◌∷◌, ◌++◌, length, take, drop, map, refl, sym, ◌∙◌, ap, subst, arith, true, false, Some, None, Option, eqb, eq-eqb, append_assoc, length-take}
 use Rattle.std.specs.Prelude.{slice_get}
 use Rattle.std.proofs.lemmas.Bool.{cond_both, cond-true, cond-false}
 use Rattle.std.proofs.lemmas.List.{take-append-drop, take_all}
@@ -7,11 +7,11 @@ use Rattle.std.proofs.lemmas.Option.{slice_get_within}
 use Rattle.sample_key.specs.Sent.{Sent}
 use Rattle.sample_key.specs.declared.losses.Pace.{Pace}
 use Rattle.trace_model.specs.declared.notices.Record.{Record}
-use Rattle.driver_model.specs.Lists.{AllOf, SomeOf}
+use Rattle.driver_model.specs.Lists.{AllOf}
 use Rattle.driver_model.specs.Handover.{FarSide}
 use Rattle.driver_model.specs.Invariant.{last_answer}
 use Rattle.driver_laws.proofs.Lists.{append-nil}
-use Rattle.run_model.specs.Daemon.{needs_flush, in_force, flush_before, answering, reaches, is_flushed}
+use Rattle.run_model.specs.Daemon.{needs_flush, flush_before, answering, reaches}
 use Rattle.run_model.specs.Validity.{flushes_of, answers_owed}
 use Rattle.run_model.specs.Books.{AsksInNeed}
 use Rattle.run_laws.proofs.Basics.{taken_one, none_there, eqb_apart}

@@ -1,10 +1,9 @@
 -- Between any two steps the cells are handed over as their words say, and the bell is sound.
-use Rattle.std.proofs.Common.{◌≡◌, ℕ, zero, suc, ◌+◌, ◌*◌, ◌/◌, ◌%◌, ◌^◌, ◌<◌, ◌≤◌, List, [], ◌∷◌, ◌++◌, length, refl, sym, ◌∙◌, ap, subst, arith, inl, inr, ◌⊎◌, Bool, true, false, Some, None, Option, is_some, length-append, eq-eqb}
+use Rattle.std.proofs.Common.{◌≡◌, ℕ, ◌+◌, ◌%◌, ◌^◌, ◌≤◌, List, [], ◌∷◌, length, refl, sym, ◌∙◌, ap, arith, inl, inr, Bool, true, false, Some, is_some, length-append, eq-eqb}
 use Rattle.std.specs.Prelude.{slice_get}
 use Rattle.sample_key.specs.Sent.{Sent}
 use Rattle.sample_key.specs.declared.losses.Pace.{Pace}
 use Rattle.trace_model.specs.Recording.{Recording}
-use Rattle.trace_model.specs.Streams.{records_in}
 use Rattle.driver_model.specs.Handover.{IsHandover}
 use Rattle.driver_model.specs.Invariant.{is_active}
 use Rattle.run_model.specs.Running.{Processor, System}

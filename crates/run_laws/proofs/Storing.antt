@@ -1,11 +1,10 @@
 -- What is kept of a run can be stored part by part, and tallied.
-use Rattle.std.proofs.Common.{◌≡◌, ℕ, zero, suc, ◌+◌, ◌*◌, ◌/◌, ◌<◌, ◌≤◌, List, [], ◌∷◌, ◌++◌, length, take, map, refl, sym, ◌∙◌, ap, subst, arith, inl, inr, ◌⊎◌, Bool, true, false, cond, Some, None, Option, eqb, leb, eq-eqb, length-append}
+use Rattle.std.proofs.Common.{◌≡◌, ℕ, zero, suc, ◌+◌, ◌/◌, ◌<◌, ◌≤◌, List, [], ◌∷◌, ◌++◌, length, map, refl, sym, ◌∙◌, ap, subst, arith, Bool, true, false, cond, Some, eqb}
 use Rattle.std.specs.Prelude.{slice_get, filter, All, IsSomeAnd}
 use Rattle.std.proofs.lemmas.Bool.{cond_both, cond-true}
 use Rattle.std.proofs.lemmas.List.{length-map}
 use Rattle.std.proofs.lemmas.List.Elements.{All-from_recursion}
 use Rattle.std.specs.List.{AllByRecursion}
-use Rattle.std.proofs.lemmas.Option.{slice_get_within}
 use Rattle.sample_key.specs.Sent.{Sent}
 use Rattle.sample_key.specs.declared.losses.Loss.{Loss}
 use Rattle.sample_key.specs.declared.losses.Pace.{Pace}
@@ -13,17 +12,17 @@ use Rattle.trace_model.specs.Parts.{part_of}
 use Rattle.trace_model.specs.Recording.{Recording}
 use Rattle.trace_model.specs.Streams.{stream_of, records_in}
 use Rattle.driver_model.specs.Lists.{EachFrom, AllOf}
-use Rattle.driver_model.specs.Invariant.{DriverInvariant, entries_of}
+use Rattle.driver_model.specs.Invariant.{entries_of}
 use Rattle.driver_laws.proofs.Lists.{all_map, all_both, all_last}
 use Rattle.driver_laws.proofs.Marks.{due_most}
 use Rattle.database_model.specs.Runs.{Drained}
 use Rattle.database_model.specs.Ranges.{IsDrained, AreLosses, LossesRiseFrom, EndsWith, IsSegment, IsRecorded}
 use Rattle.run_model.specs.Daemon.{is_known}
-use Rattle.run_model.specs.Running.{Processor, System, setup_of, record_of}
+use Rattle.run_model.specs.Running.{Processor, System, record_of}
 use Rattle.run_model.specs.Shares.{is_of, drains_of, batches_in, drains_in_part, last_part, segment_of}
 use Rattle.run_model.specs.Validity.{IsOfTrace, IsPlaced}
 use Rattle.run_laws.specs.Laws.{IsFit}
-use Rattle.run_laws.proofs.Basics.{IsFront, all_of_map}
+use Rattle.run_laws.proofs.Basics.{IsFront}
 use Rattle.run_laws.proofs.Systems.{SystemHolds, of_cell, got_map}
 use Rattle.run_laws.proofs.Endings.{drained_facts, facts_front, got_within}
 

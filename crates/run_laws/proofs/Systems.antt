@@ -1,5 +1,5 @@
 -- What holds of a whole run between any two steps, and that each step keeps it.
-use Rattle.std.proofs.Common.{◌≡◌, ℕ, zero, suc, ◌+◌, ◌*◌, ◌/◌, ◌%◌, ◌<◌, ◌≤◌, List, [], ◌∷◌, ◌++◌, length, take, map, refl, sym, ◌∙◌, ap, subst, arith, inl, inr, ◌⊎◌, Bool, true, false, ◌&&◌, if◌then◌else◌, Some, None, Option, eqb, eqb-true, eq-eqb}
+use Rattle.std.proofs.Common.{◌≡◌, ℕ, zero, suc, ◌+◌, ◌*◌, ◌/◌, ◌<◌, ◌≤◌, List, [], ◌∷◌, ◌++◌, length, map, refl, sym, ◌∙◌, ap, subst, arith, inl, inr, ◌⊎◌, Bool, true, false, if◌then◌else◌, Some, None, Option, eqb, eqb-true, eq-eqb}
 use Rattle.std.specs.Prelude.{slice_get, slice_set}
 use Rattle.std.specs.List.{range_with_len}
 use Rattle.std.proofs.lemmas.Bool.{cond_both, cond-true, cond-false, and_left, and_right, eqb-false}
@@ -19,8 +19,8 @@ use Rattle.driver_model.specs.Handover.{FarSide}
 use Rattle.driver_model.specs.Invariant.{IsSetup}
 use Rattle.driver_laws.proofs.Lists.{all_last}
 use Rattle.database_model.specs.Runs.{Drained}
-use Rattle.run_model.specs.Daemon.{Daemon, Advancing, needs_flush, drain_of, noted, in_force, move, ask, settle, go_on, begin, advance, first_waiting, flush_before, is_flushed}
-use Rattle.run_model.specs.Running.{Processor, System, setup_of, room_for, new_processor, words_of, turned, waiting_in, waiting_at, poll_buffer, poll_table, polled, rung, start, after_turn, noted_if, after_poll, rung_if, advance_in, after_advance, acts, after_step, after_steps}
+use Rattle.run_model.specs.Daemon.{Daemon, Advancing, needs_flush, drain_of, noted, in_force, move, ask, settle, go_on, begin, first_waiting, flush_before, is_flushed}
+use Rattle.run_model.specs.Running.{Processor, System, setup_of, room_of, new_processor, words_of, turned, waiting_in, waiting_at, poll_buffer, poll_table, polled, rung, start, after_turn, noted_if, after_poll, rung_if, after_advance, acts, after_step, after_steps}
 use Rattle.run_model.specs.Shares.{is_of, drains_of}
 use Rattle.run_model.specs.Books.{AsksInNeed, KeepsBooks}
 use Rattle.run_laws.specs.Laws.{IsFit, run_so_far}
@@ -147,7 +147,7 @@ fit_setup pace trace cpu fit within =
 -- a processor at the start
 start_lane : DriverLaws → (pace : Pace) (trace : Recording) (cpu : ℕ) → IsFit trace → LaneHolds pace trace cpu 0 false [] [] [] (new_processor trace cpu)
 start_lane laws pace trace cpu fit = record {
-  lane = laws.start (setup_of pace trace cpu) (Some (room_for (length (stream_of cpu trace)) (length (records_in trace) + 1))) trace.buckets trace.buffer
+  lane = laws.start (setup_of pace trace cpu) (Some (room_of trace cpu)) trace.buckets trace.buffer
       (omega arith) fit.buckets fit.buffer;
   buckets = refl;
   size = refl;

@@ -1,5 +1,5 @@
 -- A turn of its driver keeps what holds of a processor.
-use Rattle.std.proofs.Common.{◌≡◌, ℕ, zero, suc, ◌+◌, ◌*◌, ◌/◌, ◌%◌, ◌<◌, ◌≤◌, List, [], ◌∷◌, ◌++◌, length, take, drop, map, refl, sym, ◌∙◌, ap, subst, arith, inl, inr, ◌⊎◌, Bool, true, false, if◌then◌else◌, Some, None, Option, is_some, eqb, leb, length-append, eqb-true, eq-eqb, leb-true}
+use Rattle.std.proofs.Common.{◌≡◌, ℕ, ◌≤◌, List, [], ◌∷◌, ◌++◌, refl, sym, ◌∙◌, ap, subst, arith, inl, inr, ◌⊎◌, Bool, true, false, is_some}
 use Rattle.std.proofs.lemmas.Bool.{cond-true}
 use Rattle.std.proofs.lemmas.List.{map-append}
 use Rattle.sample_key.specs.Sent.{Sent}
@@ -8,22 +8,22 @@ use Rattle.sample_key.specs.declared.losses.Pace.{Pace}
 use Rattle.trace_model.specs.Recording.{Recording}
 use Rattle.trace_model.specs.Streams.{stream_of, records_in}
 use Rattle.trace_model.specs.declared.notices.Record.{Record}
-use Rattle.driver_model.specs.Lists.{AllOf, SomeOf}
-use Rattle.driver_model.specs.Sides.{Side, Slot, side_hear}
+use Rattle.driver_model.specs.Lists.{AllOf}
+use Rattle.driver_model.specs.Sides.{Side, side_hear}
 use Rattle.driver_model.specs.Handover.{rung_of, WasRung}
 use Rattle.driver_model.specs.Driver.{Setup, Driver, Words, Turned, turn_of, after_regain, regain, ends_with}
-use Rattle.driver_model.specs.Invariant.{IsSetup, DriverInvariant, is_active, last_answer}
+use Rattle.driver_model.specs.Invariant.{IsSetup, is_active, last_answer}
 use Rattle.driver_model.specs.declared.answers.Turn.TheVariants.{Done}
 use Rattle.driver_laws.specs.Turns.{BellIsHeard}
-use Rattle.driver_laws.specs.Doings.{CellDid, HandedNone, HandedOne, AnswersBell, AnswersNothing, Taken, DidBy, TurnDid}
+use Rattle.driver_laws.specs.Doings.{CellDid, AnswersBell, AnswersNothing, Taken, DidBy, TurnDid}
 use Rattle.driver_laws.proofs.Lists.{all_push}
 use Rattle.database_model.specs.Runs.{Drained}
-use Rattle.run_model.specs.Daemon.{in_force, flush_before}
+use Rattle.run_model.specs.Daemon.{flush_before}
 use Rattle.run_model.specs.Running.{Processor, setup_of, words_of, turn_on, turned}
 use Rattle.run_laws.proofs.Driven.{DriverLaws}
-use Rattle.run_laws.proofs.Basics.{IsFront, IsPassed, front_even, front_odd, both_answers, rung_known}
+use Rattle.run_laws.proofs.Basics.{IsFront, front_even, front_odd, both_answers, rung_known}
 use Rattle.run_laws.proofs.Owed.{asked_before, answers_of, last_of_answers}
-use Rattle.run_laws.proofs.Lanes.{IsOf, bell_of, AllAnswered, AnsweredNow, Answering, CellHolds, IsRungTo, LaneHolds}
+use Rattle.run_laws.proofs.Lanes.{IsOf, bell_of, Answering, CellHolds, IsRungTo, LaneHolds}
 
 -- what a turn heard, and that it leaves the made sizes
 pub record Hears (before after : Side) (bell : ℕ) : Type 0 where

@@ -1,5 +1,5 @@
 -- The laws of a run: what holds of it under every schedule, at both paces.
-use Rattle.std.specs.Prelude.{◌≡◌, ℕ, ◌+◌, ◌<◌, ◌≤◌, true, List, [], ◌∷◌, ◌++◌, length, map, slice_get, Some}
+use Rattle.std.specs.Prelude.{◌≡◌, ℕ, ◌<◌, ◌≤◌, true, List, [], ◌++◌, length, map, slice_get, Some}
 use Rattle.std.specs.List.{AllByRecursion}
 use Rattle.sample_key.specs.Marks.{due}
 use Rattle.sample_key.specs.declared.keys.Marked.{Marked}
@@ -56,8 +56,8 @@ abbrev pub StatisticsAreRight : Type 0
 StatisticsAreRight = (pace : Pace) (trace : Recording) (first_epoch run : ℕ) (steps : List Step)
     → IsFit trace → IsFinished pace trace first_epoch steps
     → StatisticsAgree trace
-        (record_of run first_epoch (run_so_far pace trace first_epoch steps))
-        (stats_of (run_so_far pace trace first_epoch steps))
+    (record_of run first_epoch (run_so_far pace trace first_epoch steps))
+    (stats_of (run_so_far pace trace first_epoch steps))
 
 -- At any moment the drains so far are those of a run that was cut short.
 abbrev pub DrainsAreValid : Type 0
@@ -114,7 +114,7 @@ abbrev pub RecordsCanBeStored : Type 0
 RecordsCanBeStored = (pace : Pace) (trace : Recording) (run first_epoch : ℕ) (steps : List Step)
     → IsFit trace → 1 ≤ run → (part : ℕ) → part ≤ last_part (records_in trace)
     → IsSegment (segment_of (records_in trace)
-        (record_of run first_epoch (run_so_far pace trace first_epoch steps)) part)
+    (record_of run first_epoch (run_so_far pace trace first_epoch steps)) part)
 
 -- And the whole of it can be tallied.
 abbrev pub RecordsCanBeTallied : Type 0

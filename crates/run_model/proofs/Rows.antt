@@ -1,19 +1,17 @@
 -- Worked runs, computed by the definitions.
-use Rattle.std.proofs.Common.{◌≡◌, ℕ, zero, suc, ◌+◌, ◌%◌, List, [], ◌∷◌, ◌++◌, map, take, replicate, refl, Bool, true, false, Some, None, Option, is_some}
+use Rattle.std.proofs.Common.{◌≡◌, ℕ, ◌%◌, List, [], ◌∷◌, ◌++◌, map, take, replicate, refl, Bool, true, false, Some, None, Option, is_some}
 use Rattle.std.specs.Prelude.{codes}
 use Rattle.std.specs.List.{flat_map}
-use Rattle.sample_key.specs.Counted.{entry}
-use Rattle.sample_key.specs.declared.events.Event.TheVariants.{Cycles, Dmiss}
+use Rattle.sample_key.specs.declared.events.Event.TheVariants.{Cycles}
 use Rattle.sample_key.specs.declared.keys.Key.{Key}
-use Rattle.sample_key.specs.declared.losses.Pace.{Pace}
 use Rattle.sample_key.specs.declared.losses.Pace.TheVariants.{Free, Exact}
 use Rattle.trace_model.specs.Attribution.{place_at}
-use Rattle.trace_model.specs.Counting.{Spot, Known, Unknown, spot_at}
+use Rattle.trace_model.specs.Counting.{Spot, Known, spot_at}
 use Rattle.trace_model.specs.Recording.{Recording, recording}
 use Rattle.trace_model.specs.Streams.{records_in}
 use Rattle.trace_model.specs.declared.notices.Line.{Line}
 use Rattle.trace_model.specs.declared.notices.Line.TheVariants.{Sample, Rec}
-use Rattle.trace_model.specs.declared.notices.Record.TheVariants.{Scan, Load, Unload, Exec, Kernel, Drain, Epoch}
+use Rattle.trace_model.specs.declared.notices.Record.TheVariants.{Load, Unload, Drain, Epoch}
 use Rattle.trace_model.specs.declared.notices.Step.{Step}
 use Rattle.trace_model.specs.declared.notices.Step.TheVariants.{Lane, Poll, Advance}
 use Rattle.driver_model.specs.declared.answers.Turn.{Turn}
@@ -23,8 +21,7 @@ use Rattle.database_model.specs.Runs.{Drained, Recorded}
 use Rattle.database_model.specs.Tally.{tally_of, rows_of}
 use Rattle.database_model.specs.declared.tallies.TallyRow.{TallyRow}
 use Rattle.run_model.specs.declared.advances.Advanced.{Advanced}
-use Rattle.run_model.specs.declared.advances.Advanced.TheVariants.{Moved, Opened, Waiting, Finished}
-use Rattle.run_model.specs.Daemon.{flush_before}
+use Rattle.run_model.specs.declared.advances.Advanced.TheVariants.{Moved, Opened, Waiting}
 use Rattle.run_model.specs.Running.{Processor, System, setup_of, turn_on, waiting_at, start, after_steps, advance_in, reference_run, record_of}
 use Rattle.run_model.specs.Shares.{segment_of, last_part}
 

@@ -1,8 +1,7 @@
 -- Records that are not valid.
-use Rattle.std.proofs.Common.{◌≡◌, ℕ, List, [], ◌∷◌, ◌++◌, map, refl, arith, false}
+use Rattle.std.proofs.Common.{[], ◌∷◌, ◌++◌, map, arith}
 use Rattle.sample_key.specs.declared.losses.Pace.TheVariants.{Free}
-use Rattle.database_model.specs.Runs.{Drained, Recorded}
-use Rattle.run_model.specs.Daemon.{answering}
+use Rattle.database_model.specs.Runs.{Drained}
 use Rattle.run_model.specs.Validity.{IsValidRun}
 use Rattle.run_model.proofs.Rows.{fold_trace, fold_key, both_out, seventh_key, kept_of}
 

@@ -1,4 +1,5 @@
--- What holds of the daemon between any two of its calls: where it stands, its epoch, and its drains.
+-- What holds of the daemon between any two of its calls: where it stands, its epoch, and its
+-- drains.
 use Rattle.std.specs.Prelude.{◌≡◌, ℕ, ◌≤◌, true, List, length, take, slice_get, Option, Some, None}
 use Rattle.sample_key.specs.declared.losses.Pace.{Pace}
 use Rattle.trace_model.specs.Parts.{epoch_after}
@@ -15,7 +16,8 @@ abbrev pub AsksInNeed : Pace → Option Record → Type 0
 AsksInNeed pace None = Unit {0}
 AsksInNeed pace (Some notice) = needs_flush pace notice ≡ true
 
--- The daemon stands at a record of the trace or at its end, and asks for a flush only where it is needed.
+-- The daemon stands at a record of the trace or at its end, and asks for a flush only where it is
+-- needed.
 pub record StandsWell (pace : Pace) (records : List Record) (daemon : Daemon) : Type 0 where
   pub within : daemon.applied ≤ length records
   pub need : daemon.asking ≡ true → AsksInNeed pace (slice_get records daemon.applied)
@@ -25,7 +27,8 @@ abbrev pub IsBefore : Daemon → Drained → Type 0
 IsBefore daemon drain = (drain.at ≤ daemon.applied) × (drain.epoch ≤ daemon.epoch)
 
 -- The daemon's books: where it stands, its epoch, and its drains, each with its place.
-pub record KeepsBooks (pace : Pace) (trace : Recording) (first_epoch : ℕ) (daemon : Daemon) : Type 0 where
+pub record KeepsBooks (pace : Pace) (trace : Recording) (first_epoch : ℕ) (daemon : Daemon)
+    : Type 0 where
   pub stands : StandsWell pace (records_in trace) daemon
   pub epoch : daemon.epoch ≡ epoch_after first_epoch (take daemon.applied (records_in trace))
   pub drains : AreDrains trace first_epoch daemon.drains

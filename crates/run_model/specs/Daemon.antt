@@ -1,5 +1,6 @@
--- The daemon: what it notes of the batches that it takes, and when it puts the next record in force.
-use Rattle.std.specs.Prelude.{◌≡◌, ℕ, ◌+◌, ◌*◌, ◌==◌, ◌&&◌, nat_le, Bool, true, false, if◌then◌else◌, List, [], ◌∷◌, ◌++◌, length, map, take, slice_get, is_some, Option, Some, None}
+-- The daemon: what it notes of the batches that it takes, and when it puts the next record in
+-- force.
+use Rattle.std.specs.Prelude.{ℕ, ◌+◌, ◌*◌, ◌==◌, ◌&&◌, nat_le, Bool, true, false, if◌then◌else◌, List, [], ◌∷◌, ◌++◌, length, map, take, slice_get, is_some, Option, Some, None}
 use Rattle.sample_key.specs.Counted.{Counted}
 use Rattle.sample_key.specs.Sent.{Sent}
 use Rattle.sample_key.specs.declared.losses.Pace.{Pace}
@@ -28,7 +29,13 @@ pub record Daemon : Type 0 where
 
 -- a new daemon
 abbrev pub new_daemon : ℕ → Daemon
-new_daemon first_epoch = record { applied = 0; asking = false; epoch = first_epoch; drains = []; finished = false }
+new_daemon first_epoch = record {
+  applied = 0;
+  asking = false;
+  epoch = first_epoch;
+  drains = [];
+  finished = false;
+}
 
 -- whether a record waits for a flush before it is put in force: at the exact pace each does
 abbrev pub needs_flush : Pace → Record → Bool
@@ -47,7 +54,8 @@ needs_flush Free Epoch = true
 abbrev pub in_force : ℕ → ℕ
 in_force applied = 2 * applied
 
--- the bell value that asks besides for a flush before the next record, or for the close where none is left
+-- the bell value that asks besides for a flush before the next record, or for the close where none
+-- is left
 abbrev pub flush_before : ℕ → ℕ
 flush_before applied = 2 * applied + 1
 
@@ -66,29 +74,35 @@ drain_of records daemon batch = record {
 
 -- the daemon after it took this batch
 abbrev pub noted : List Record → Daemon → Sent → Daemon
-noted records daemon batch = record daemon { drains = daemon.drains ++ drain_of records daemon batch ∷ [] }
+noted records daemon batch =
+    record daemon { drains = daemon.drains ++ drain_of records daemon batch ∷ [] }
 
 -- the first table batch that answers this value
 abbrev pub answering : ℕ → List Sent → Option Sent
 answering value [] = None
-answering value (batch ∷ batches) = if batch.note.answers == value then Some batch else answering value batches
+answering value (batch ∷ batches) =
+    if batch.note.answers == value then Some batch else answering value batches
 
 -- whether the buffers that a table batch names as sent were taken
 abbrev pub reaches : FarSide → Option Sent → Bool
 reaches far None = false
 reaches far (Some batch) =
-    nat_le batch.note.sent0 (length far.first.taken) && nat_le batch.note.sent1 (length far.second.taken)
+    nat_le batch.note.sent0 (length far.first.taken)
+    && nat_le batch.note.sent1 (length far.second.taken)
 
--- whether a processor's flush is complete: the table batch that answers this value was taken, and the buffers that it names
+-- whether a processor's flush is complete: the table batch that answers this value was taken, and
+-- the buffers that it names
 abbrev pub is_flushed : ℕ → FarSide → Bool
 is_flushed value far = reaches far (answering value far.third.taken)
 
 -- the first of these processors, numbered from here on, whose flush is not complete
 abbrev pub first_waiting : ℕ → ℕ → List FarSide → Option ℕ
 first_waiting value cpu [] = None
-first_waiting value cpu (far ∷ fars) = if is_flushed value far then first_waiting value (cpu + 1) fars else Some cpu
+first_waiting value cpu (far ∷ fars) =
+    if is_flushed value far then first_waiting value (cpu + 1) fars else Some cpu
 
--- what an advance does: its answer, the daemon afterwards, and the bell value that is rung on all processors, if one is
+-- what an advance does: its answer, the daemon afterwards, and the bell value that is rung on all
+-- processors, if one is
 pub record Advancing : Type 0 where
   pub answer : Advanced
   pub daemon : Daemon
@@ -114,9 +128,14 @@ ask daemon = record {
   ring = Some (flush_before daemon.applied);
 }
 
--- what was asked for is complete: the next record is put in force, and where none is left the run is finished
+-- what was asked for is complete: the next record is put in force, and where none is left the run
+-- is finished
 abbrev pub settle : Daemon → Option Record → Advancing
-settle daemon None = record { answer = Finished; daemon = record daemon { finished = true }; ring = None }
+settle daemon None = record {
+  answer = Finished;
+  daemon = record daemon { finished = true };
+  ring = None;
+}
 settle daemon (Some notice) = move daemon notice
 
 -- a flush is asked for: the first processor of which it is not complete is waited for
@@ -124,7 +143,8 @@ abbrev pub go_on : List Record → Daemon → Option ℕ → Advancing
 go_on records daemon None = settle daemon (slice_get records daemon.applied)
 go_on records daemon (Some cpu) = record { answer = Waiting cpu; daemon = daemon; ring = None }
 
--- nothing is asked for: the next record is put in force, or asks for a flush, and where none is left the close is asked for
+-- nothing is asked for: the next record is put in force, or asks for a flush, and where none is
+-- left the close is asked for
 abbrev pub begin : Pace → Daemon → Option Record → Advancing
 begin pace daemon None = ask daemon
 begin pace daemon (Some notice) = if needs_flush pace notice then ask daemon else move daemon notice
@@ -140,7 +160,9 @@ advance pace records fars daemon =
 abbrev pub rungs_before : Pace → ℕ → List Record → List ℕ
 rungs_before pace number [] = []
 rungs_before pace number (notice ∷ records) =
-    (if needs_flush pace notice then flush_before number ∷ in_force (number + 1) ∷ [] else in_force (number + 1) ∷ [])
+    (if needs_flush pace notice
+    then flush_before number ∷ in_force (number + 1) ∷ []
+    else in_force (number + 1) ∷ [])
     ++ rungs_before pace (number + 1) records
 
 -- the values that a daemon rang so far, in order: they follow from where it stands

@@ -1,10 +1,10 @@
--- A whole run: all processors and the daemon, under the steps of a schedule and then in rounds until the close is complete.
--- A value that the daemon takes is given back in the same poll, so the word of a cell follows from what was handed and taken.
-use Rattle.std.specs.Prelude.{ℕ, zero, suc, ◌+◌, ◌*◌, ◌==◌, Bool, if◌then◌else◌, List, [], ◌∷◌, ◌++◌, length, map, sum_by, slice_get, slice_set, Option, Some, None}
+-- A whole run: all processors and the daemon, under the steps of a schedule and then in rounds
+-- until the close is complete. A value that the daemon takes is given back in the same poll, so the
+-- word of a cell follows from what was handed and taken.
+use Rattle.std.specs.Prelude.{ℕ, zero, suc, ◌+◌, ◌*◌, ◌==◌, if◌then◌else◌, List, [], ◌∷◌, ◌++◌, length, map, sum_by, slice_get, slice_set, Option, Some, None}
 use Rattle.std.specs.List.{range_with_len, flat_map}
 use Rattle.sample_key.specs.Sent.{Sent}
 use Rattle.sample_key.specs.declared.losses.Pace.{Pace}
-use Rattle.sample_key.specs.declared.losses.Pace.TheVariants.{Free}
 use Rattle.trace_model.specs.Recording.{Recording}
 use Rattle.trace_model.specs.Streams.{stream_of, records_in}
 use Rattle.trace_model.specs.declared.notices.Record.{Record}
@@ -37,11 +37,15 @@ setup_of pace trace cpu = record {
 abbrev pub room_for : ℕ → ℕ → Room
 room_for samples requests = record { hands = samples + 2 * requests + 2; entries = samples + 1 }
 
+-- the room of a processor's side: a request for each record, and the close
+abbrev pub room_of : Recording → ℕ → Room
+room_of trace cpu = room_for (length (stream_of cpu trace)) (length (records_in trace) + 1)
+
 -- a processor at the start
 abbrev pub new_processor : Recording → ℕ → Processor
 new_processor trace cpu = record {
   driver = new_driver;
-  side = new_side (Some (room_for (length (stream_of cpu trace)) (length (records_in trace) + 1))) trace.buckets trace.buffer;
+  side = new_side (Some (room_of trace cpu)) trace.buckets trace.buffer;
   far = new_far (Some none_given);
 }
 
@@ -59,7 +63,9 @@ words_of processor = words_at (rung_of processor.far.rungs) (counts_of processor
 
 -- what a turn of the processor's driver does
 abbrev pub turn_on : Setup → Processor → Turned
-turn_on setup processor = turn_of setup (words_of processor) (record { driver = processor.driver; side = processor.side })
+turn_on setup processor =
+    turn_of setup (words_of processor)
+    (record { driver = processor.driver; side = processor.side })
 
 -- the processor after a turn of its driver
 abbrev pub turned : Setup → Processor → Processor
@@ -82,7 +88,8 @@ waiting_at processor cell =
 
 -- a poll of a buffer reads its word; the batch that waits is taken, and the buffer is given back
 abbrev pub poll_buffer : Processor → ℕ → ℕ → Option Sent → Processor
-poll_buffer processor buffer word None = record processor { side = side_poll_buffer processor.side buffer word }
+poll_buffer processor buffer word None =
+    record processor { side = side_poll_buffer processor.side buffer word }
 poll_buffer processor buffer word (Some batch) = record processor {
   side = side_called (side_poll_buffer processor.side buffer word);
   far = far_gave_buffer (far_took_buffer processor.far buffer batch) buffer;
@@ -99,9 +106,11 @@ poll_table processor word (Some batch) = record processor {
 -- the processor after a poll of this cell
 abbrev pub polled : Processor → ℕ → Processor
 polled processor cell =
-    if cell == 0 then poll_buffer processor 0 (words_of processor).two.first (waiting_at processor cell)
-    else if cell == 1 then poll_buffer processor 1 (words_of processor).two.second (waiting_at processor cell)
-    else poll_table processor (words_of processor).third (waiting_at processor cell)
+    let words = words_of processor in
+    let found = waiting_at processor cell in
+    if cell == 0 then poll_buffer processor 0 words.two.first found
+    else if cell == 1 then poll_buffer processor 1 words.two.second found
+    else poll_table processor words.third found
 
 -- the processor after its bell was rung with this value
 abbrev pub rung : ℕ → Processor → Processor
@@ -151,10 +160,14 @@ abbrev pub rung_if : Option ℕ → List Processor → List Processor
 rung_if None processors = processors
 rung_if (Some value) processors = map (rung value) processors
 
+-- the daemon's halves of all processors
+abbrev pub fars_of : System → List FarSide
+fars_of system = map (λ processor. processor.far) system.processors
+
 -- what the daemon's advance does
 abbrev pub advance_in : Pace → Recording → System → Advancing
 advance_in pace trace system =
-    advance pace (records_in trace) (map (λ processor. processor.far) system.processors) system.daemon
+    advance pace (records_in trace) (fars_of system) system.daemon
 
 -- one advance of the daemon
 abbrev pub after_advance : Pace → Recording → System → System
@@ -165,18 +178,22 @@ after_advance pace trace system = record {
 
 -- one step of a run that is not finished
 abbrev pub acts : Pace → Recording → System → Step → System
-acts pace trace system (Lane cpu) = after_turn pace trace system cpu (slice_get system.processors cpu)
-acts pace trace system (Poll cpu cell) = after_poll trace system cpu cell (slice_get system.processors cpu)
+acts pace trace system (Lane cpu) =
+    after_turn pace trace system cpu (slice_get system.processors cpu)
+acts pace trace system (Poll cpu cell) =
+    after_poll trace system cpu cell (slice_get system.processors cpu)
 acts pace trace system Advance = after_advance pace trace system
 
 -- one step: once the run is finished nothing happens any more
 abbrev pub after_step : Pace → Recording → System → Step → System
-after_step pace trace system step = if system.daemon.finished then system else acts pace trace system step
+after_step pace trace system step =
+    if system.daemon.finished then system else acts pace trace system step
 
 -- these steps, one after the other
 abbrev pub after_steps : Pace → Recording → System → List Step → System
 after_steps pace trace system [] = system
-after_steps pace trace system (step ∷ steps) = after_steps pace trace (after_step pace trace system step) steps
+after_steps pace trace system (step ∷ steps) =
+    after_steps pace trace (after_step pace trace system step) steps
 
 -- one round: a turn of each driver, a poll of each cell, and one advance
 abbrev pub round : Recording → List Step
@@ -200,7 +217,8 @@ enough_rounds trace = sample_count trace + 4 * length (records_in trace) + 8
 -- the run of a trace: the steps of its schedule, and then rounds
 abbrev pub reference_run : Pace → Recording → ℕ → System
 reference_run pace trace first_epoch =
-    after_steps pace trace (start trace first_epoch) (trace.schedule ++ rounds (enough_rounds trace) trace)
+    after_steps pace trace (start trace first_epoch)
+    (trace.schedule ++ rounds (enough_rounds trace) trace)
 
 -- what is kept of a run with this number
 abbrev pub record_of : ℕ → ℕ → System → Recorded

@@ -1,4 +1,5 @@
--- What a record says of one processor, the parts of a run, and what the statistics have to do with the record.
+-- What a record says of one processor, the parts of a run, and what the statistics have to do with
+-- the record.
 use Rattle.std.specs.Prelude.{◌≡◌, ℕ, ◌+◌, ◌==◌, ◌&&◌, Bool, if◌then◌else◌, List, [], ◌∷◌, length, map, filter, count_by, slice_index_or}
 use Rattle.sample_key.specs.Bags.{batched, batched_upto}
 use Rattle.sample_key.specs.Sent.{Sent}
@@ -24,7 +25,8 @@ drains_of cpu cell (drain ∷ drains) =
 abbrev pub batches_in : List Drained → List Sent
 batches_in drains = map (λ drain. drain.batch) drains
 
--- a processor's share of a record: the drains of buffer 0, of buffer 1 and of the table, and the losses
+-- a processor's share of a record: the drains of buffer 0, of buffer 1 and of the table, and the
+-- losses
 pub record Share : Type 0 where
   pub first : List Drained
   pub second : List Drained
@@ -47,12 +49,14 @@ share_of kept cpu = share_in kept.drains (slice_index_or kept.losses cpu []) cpu
 -- how often the drained batches count a key
 abbrev pub drained_weight : Key → Share → ℕ
 drained_weight key share =
-    batched key (batches_in share.first) + batched key (batches_in share.second) + batched key (batches_in share.third)
+    batched key (batches_in share.first) + batched key (batches_in share.second)
+    + batched key (batches_in share.third)
 
 -- the same, of the batches that go up to at most so many samples
 abbrev pub drained_upto : Key → ℕ → Share → ℕ
 drained_upto key count share =
-    batched_upto key count (batches_in share.first) + batched_upto key count (batches_in share.second)
+    batched_upto key count (batches_in share.first)
+    + batched_upto key count (batches_in share.second)
     + batched_upto key count (batches_in share.third)
 
 -- the last part of a run
@@ -74,10 +78,12 @@ segment_of records kept part = record {
   losses = if part == last_part records then kept.losses else [];
 }
 
--- a processor's statistics agree with its share of the record: the entries of tables and of buffers, and all samples that
--- were not lost
+-- a processor's statistics agree with its share of the record: the entries of tables and of
+-- buffers, and all samples that were not lost
 pub record AgreesWith (samples : ℕ) (share : Share) (stats : Stats) : Type 0 where
   pub placed : stats.placed ≡ entries_of (batches_in share.third)
   pub written : stats.evicted + stats.spilt + stats.direct
       ≡ entries_of (batches_in share.first) + entries_of (batches_in share.second)
-  pub all : stats.folded + stats.placed + stats.evicted + stats.spilt + stats.direct + length share.losses ≡ samples
+  pub all : stats.folded + stats.placed + stats.evicted + stats.spilt + stats.direct
+      + length share.losses
+      ≡ samples

@@ -20,7 +20,8 @@ use Rattle.run_model.specs.Shares.{Share, share_in, share_of, batches_in, draine
 
 -- Each sample of a processor is counted once in its drains or lost, key by key.
 abbrev pub AreCountedOnce : List Marked → Share → Type 0
-AreCountedOnce samples share = (key : Key) → drained_weight key share + lost key samples share.losses ≡ times key samples
+AreCountedOnce samples share = (key : Key) →
+    drained_weight key share + lost key samples share.losses ≡ times key samples
 
 -- Its drains count no key more often than its samples.
 abbrev pub AreOfSamples : List Marked → Share → Type 0
@@ -36,7 +37,8 @@ AreLostSamples samples losses = Each (λ done loss.
 abbrev pub FitsBuffer : ℕ → Drained → Type 0
 FitsBuffer size drain = (1 ≤ length drain.batch.entries) × (length drain.batch.entries ≤ size)
 
--- The batches of each cell are numbered 1, 2, 3 and so on, go up to no fewer samples than those before, and fit their cell.
+-- The batches of each cell are numbered 1, 2, 3 and so on, go up to no fewer samples than those
+-- before, and fit their cell.
 pub record AreInOrder (buckets size : ℕ) (share : Share) : Type 0 where
   pub order0 : InOrder (batches_in share.first)
   pub order1 : InOrder (batches_in share.second)
@@ -54,11 +56,12 @@ pub record AreFullOrCut (size : ℕ) (share : Share) : Type 0 where
 abbrev pub IsDueAt : List Marked → Drained → Type 0
 IsDueAt samples drain = drain.batch.note.upto ≤ due samples drain.at
 
--- Batches come from the samples before them: those that go up to at most n samples count, with the losses below n, no key
--- more often than the first n samples.
+-- Batches come from the samples before them: those that go up to at most n samples count, with the
+-- losses below n, no key more often than the first n samples.
 abbrev pub AreBounded : List Marked → Share → Type 0
 AreBounded samples share = (count : ℕ) (key : Key) →
-    drained_upto key count share + lost_below key count samples share.losses ≤ times key (take count samples)
+    drained_upto key count share + lost_below key count samples share.losses
+    ≤ times key (take count samples)
 
 -- No batch was drained before its samples were due, and none counts samples after it.
 pub record AreTimely (samples : List Marked) (share : Share) : Type 0 where
@@ -69,12 +72,14 @@ pub record AreTimely (samples : List Marked) (share : Share) : Type 0 where
 
 -- At each loss both buffers were out.
 abbrev pub AreExplained : Share → Type 0
-AreExplained share = AllOf (IsExplained (batches_in share.first) (batches_in share.second)) share.losses
+AreExplained share =
+    AllOf (IsExplained (batches_in share.first) (batches_in share.second)) share.losses
 
 -- Each table batch is a whole flush.
 abbrev pub AreFlushes : List Marked → Share → Type 0
 AreFlushes samples share =
-    Each (IsWholeFlush samples (batches_in share.first) (batches_in share.second) share.losses) (batches_in share.third)
+    Each (IsWholeFlush samples (batches_in share.first) (batches_in share.second) share.losses)
+    (batches_in share.third)
 
 -- the flushes that these records, numbered from here on, ask for
 abbrev pub flushes_of : Pace → ℕ → List Record → List ℕ
@@ -84,7 +89,8 @@ flushes_of pace number (notice ∷ records) =
     then flush_before number ∷ flushes_of pace (number + 1) records
     else flushes_of pace (number + 1) records
 
--- the values that a driver answers in a whole run: a flush before each record that needs one, and the close
+-- the values that a driver answers in a whole run: a flush before each record that needs one, and
+-- the close
 abbrev pub answers_owed : Pace → List Record → List ℕ
 answers_owed pace records = flushes_of pace 0 records ++ flush_before (length records) ∷ []
 
@@ -92,7 +98,8 @@ answers_owed pace records = flushes_of pace 0 records ++ flush_before (length re
 abbrev pub answers_in : List Drained → List ℕ
 answers_in drains = map (λ drain. drain.batch.note.answers) drains
 
--- A table batch was drained while its flush was asked for, and the buffers that it names then or before.
+-- A table batch was drained while its flush was asked for, and the buffers that it names then or
+-- before.
 pub record IsTakenInTime (first second : List Drained) (drain : Drained) : Type 0 where
   pub now : drain.batch.note.answers ≡ flush_before drain.at
   pub before0 : AllOf (λ earlier. earlier.at ≤ drain.at) (take drain.batch.note.sent0 first)
@@ -104,7 +111,8 @@ pub record AreAnswered (pace : Pace) (records : List Record) (share : Share) : T
   pub times : AllOf (IsTakenInTime share.first share.second) share.third
 
 -- what a valid record says of a processor with these samples
-pub record IsValidShare (pace : Pace) (trace : Recording) (samples : List Marked) (share : Share) : Type 0 where
+pub record IsValidShare (pace : Pace) (trace : Recording) (samples : List Marked) (share : Share)
+    : Type 0 where
   pub counted : AreCountedOnce samples share
   pub lost : AreLostSamples samples share.losses
   pub in_order : AreInOrder trace.buckets trace.buffer share
@@ -118,23 +126,27 @@ pub record IsValidShare (pace : Pace) (trace : Recording) (samples : List Marked
 abbrev pub IsOfTrace : Recording → Drained → Type 0
 IsOfTrace trace drain = (drain.batch.note.cpu < trace.cpus) × (drain.batch.note.cell ≤ 2)
 
--- A drain at one of the positions of a trace has the epoch of its position, and its flags say which places were known there.
+-- A drain at one of the positions of a trace has the epoch of its position, and its flags say which
+-- places were known there.
 pub record IsPlaced (records : List Record) (first_epoch : ℕ) (drain : Drained) : Type 0 where
   pub at : drain.at ≤ length records
   pub epoch : drain.epoch ≡ epoch_after first_epoch (take drain.at records)
   pub known : drain.known ≡ map (is_known records drain.at) drain.batch.entries
 
--- Over all processors: each drain is of one of them and has its place, and positions and epochs never fall.
+-- Over all processors: each drain is of one of them and has its place, and positions and epochs
+-- never fall.
 pub record AreDrains (trace : Recording) (first_epoch : ℕ) (drains : List Drained) : Type 0 where
   pub of_trace : AllOf (IsOfTrace trace) drains
   pub placed : AllOf (IsPlaced (records_in trace) first_epoch) drains
-  pub later : Each (λ done drain. AllOf (λ earlier. (earlier.at ≤ drain.at) × (earlier.epoch ≤ drain.epoch)) done) drains
+  pub later : Each (λ done drain.
+      AllOf (λ earlier. (earlier.at ≤ drain.at) × (earlier.epoch ≤ drain.epoch)) done) drains
 
 -- The record of a whole run of a trace is valid.
 pub record IsValidRun (pace : Pace) (trace : Recording) (kept : Recorded) : Type 0 where
   pub processors : length kept.losses ≡ trace.cpus
   pub drains : AreDrains trace kept.first_epoch kept.drains
-  pub shares : (cpu : ℕ) → cpu < trace.cpus → IsValidShare pace trace (stream_of cpu trace) (share_of kept cpu)
+  pub shares : (cpu : ℕ) → cpu < trace.cpus
+      → IsValidShare pace trace (stream_of cpu trace) (share_of kept cpu)
 
 -- The table batches answer the first values that are owed, each while its flush was asked for.
 pub record AreAnsweredSoFar (pace : Pace) (records : List Record) (share : Share) : Type 0 where
@@ -142,19 +154,23 @@ pub record AreAnsweredSoFar (pace : Pace) (records : List Record) (share : Share
   pub now : AllOf (λ drain. drain.batch.note.answers ≡ flush_before drain.at) share.third
 
 -- what the drains of a run that did not come to its end say of a processor
-pub record IsPartialShare (pace : Pace) (trace : Recording) (samples : List Marked) (share : Share) : Type 0 where
+pub record IsPartialShare (pace : Pace) (trace : Recording) (samples : List Marked) (share : Share)
+    : Type 0 where
   pub of_samples : AreOfSamples samples share
   pub in_order : AreInOrder trace.buckets trace.buffer share
   pub timely : AreTimely samples share
   pub answered : AreAnsweredSoFar pace (records_in trace) share
 
 -- The drains of a run that did not come to its end are valid.
-pub record IsPartialRun (pace : Pace) (trace : Recording) (first_epoch : ℕ) (drained : List Drained) : Type 0 where
+pub record IsPartialRun (pace : Pace) (trace : Recording) (first_epoch : ℕ)
+    (drained : List Drained) : Type 0 where
   pub drains : AreDrains trace first_epoch drained
-  pub shares : (cpu : ℕ) → cpu < trace.cpus → IsPartialShare pace trace (stream_of cpu trace) (share_in drained [] cpu)
+  pub shares : (cpu : ℕ) → cpu < trace.cpus
+      → IsPartialShare pace trace (stream_of cpu trace) (share_in drained [] cpu)
 
 -- The statistics of a run agree with its record.
 pub record StatisticsAgree (trace : Recording) (kept : Recorded) (stats : List Stats) : Type 0 where
   pub processors : length stats ≡ trace.cpus
   pub each : (cpu : ℕ) → cpu < trace.cpus
-      → IsSomeAnd (slice_get stats cpu) (AgreesWith (length (stream_of cpu trace)) (share_of kept cpu))
+      → IsSomeAnd (slice_get stats cpu)
+      (AgreesWith (length (stream_of cpu trace)) (share_of kept cpu))

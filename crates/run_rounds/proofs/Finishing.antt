@@ -1,9 +1,9 @@
 -- Each round but the first gets on, so rounds finish a run.
 use Rattle.std.proofs.Common.{◌≡◌, ℕ, zero, suc, ◌+◌, ◌*◌, ◌-◌, ◌/◌, ◌%◌, ◌<◌, ◌≤◌, List, [], ◌∷◌, ◌++◌, length, map, refl, sym, ◌∙◌, ap, subst, arith, inl, inr, ◌⊎◌, Bool, true, false, ◌&&◌, if◌then◌else◌, Some, None, Option, is_some, eqb, leb, eqb-true, eq-eqb, le-leb}
 use Rattle.std.specs.Prelude.{slice_get}
-use Rattle.std.specs.List.{range_with_len, flat_map}
+use Rattle.std.specs.List.{flat_map}
 use Rattle.std.proofs.lemmas.Bool.{cond_both, cond-true, cond-false}
-use Rattle.std.proofs.lemmas.List.{length-map, map-append}
+use Rattle.std.proofs.lemmas.List.{map-append}
 use Rattle.std.proofs.lemmas.Option.{slice_get_within}
 use Rattle.sample_key.specs.Sent.{Sent}
 use Rattle.sample_key.specs.declared.losses.Pace.TheVariants.{Free}
@@ -11,30 +11,29 @@ use Rattle.trace_model.specs.Recording.{Recording}
 use Rattle.trace_model.specs.Streams.{stream_of, records_in}
 use Rattle.trace_model.specs.declared.notices.Record.{Record}
 use Rattle.trace_model.specs.declared.notices.Step.{Step}
-use Rattle.trace_model.specs.declared.notices.Step.TheVariants.{Lane, Poll, Advance}
+use Rattle.trace_model.specs.declared.notices.Step.TheVariants.{Lane, Advance}
 use Rattle.driver_model.specs.Lists.{AllOf}
-use Rattle.driver_model.specs.Sides.{is_even}
 use Rattle.driver_model.specs.Handover.{FarSide}
 use Rattle.driver_model.specs.Driver.{Driver}
 use Rattle.driver_model.specs.Invariant.{IsWholeFlush, last_answer}
-use Rattle.driver_laws.specs.Doings.{TurnGoesOn, TurnGetsOn, HandedNone, HandedOne, CellDid, AnswersBell, HandsAnswer, GetsOn}
+use Rattle.driver_laws.specs.Doings.{TurnGoesOn, TurnGetsOn, CellDid, AnswersBell}
 use Rattle.driver_laws.proofs.Lists.{all_last, all_append}
 use Rattle.driver_laws.proofs.Parts.{all_each}
 use Rattle.driver_laws.proofs.Marks.{due_most}
 use Rattle.database_model.specs.Runs.{Drained}
 use Rattle.run_model.specs.Daemon.{Daemon, Advancing, needs_flush, flush_before, is_flushed, answering, reaches, first_waiting, move, ask, settle, go_on, begin, advance}
-use Rattle.run_model.specs.Running.{Processor, System, setup_of, turn_on, turned, rung, rung_if, words_of, cpus_of, advance_in, after_advance, start, acts, after_step, after_steps, round, rounds, sample_count}
+use Rattle.run_model.specs.Running.{Processor, System, setup_of, turned, rung, rung_if, words_of, cpus_of, advance_in, after_advance, start, acts, after_step, after_steps, round, rounds, sample_count}
 use Rattle.run_model.specs.Shares.{drains_of}
 use Rattle.run_laws.specs.Laws.{IsFit, run_so_far}
 use Rattle.run_laws.proofs.Driven.{DriverLaws}
-use Rattle.run_laws.proofs.Basics.{both_answers, eqb_apart, not_longer}
+use Rattle.run_laws.proofs.Basics.{both_answers, eqb_apart}
 use Rattle.run_laws.proofs.Owed.{answers_of, asked_before, asked_below}
-use Rattle.run_laws.proofs.Lanes.{AllAnswered, AnsweredNow, Answering, LaneHolds}
+use Rattle.run_laws.proofs.Lanes.{AnsweredNow, LaneHolds}
 use Rattle.run_laws.proofs.Turning.{lane_turned, turn_did}
-use Rattle.run_laws.proofs.Systems.{SystemHolds, AfterAdvance, got_map, map_got, fit_setup, steps_hold, run_holds}
+use Rattle.run_laws.proofs.Systems.{SystemHolds, AfterAdvance, got_map, fit_setup, steps_hold, run_holds}
 use Rattle.run_laws.proofs.Endings.{got_within}
 use Rattle.run_rounds.proofs.Own.{IsOwn, StandsStill, own_steps, own_append, own_lanes, own_polls, lanes_here, polls_here, polls_of, polled_all, steps_got, steps_still, steps_append, step_acts}
-use Rattle.run_rounds.proofs.Taking.{IsTaken, IsNearlyTaken, AfterPolls, all_polled}
+use Rattle.run_rounds.proofs.Taking.{IsTaken, AfterPolls, all_polled}
 use Rattle.run_rounds.proofs.Measure.{left_from, left_of, moves_left, NoneBack, left_less, left_strictly, most_left}
 
 -- the laws of a turn that rounds rest on besides

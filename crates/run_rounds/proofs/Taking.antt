@@ -1,8 +1,6 @@
 -- After a poll of each cell all that was handed was taken.
-use Rattle.std.proofs.Common.{◌≡◌, ℕ, zero, suc, ◌+◌, ◌<◌, ◌≤◌, List, [], ◌∷◌, ◌++◌, length, map, refl, sym, ◌∙◌, ap, subst, arith, inl, inr, ◌⊎◌, Bool, true, false, Some, None, Option}
-use Rattle.std.specs.Prelude.{slice_get}
+use Rattle.std.proofs.Common.{◌≡◌, ℕ, List, refl, sym, ◌∙◌, subst, Some, None, Option}
 use Rattle.sample_key.specs.Sent.{Sent}
-use Rattle.driver_model.specs.Driver.{Driver}
 use Rattle.run_model.specs.Running.{Processor, words_of, waiting_in, waiting_at, poll_buffer, poll_table, polled}
 use Rattle.run_laws.proofs.Basics.{IsFront, front_none, front_some}
 use Rattle.run_laws.proofs.Systems.{polls_table, waits_table}

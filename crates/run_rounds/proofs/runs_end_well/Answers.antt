@@ -1,7 +1,6 @@
-use Rattle.std.proofs.Common.{◌≡◌, ◌+◌, ◌*◌, ◌≤◌, true, ◌++◌, length, arith}
+use Rattle.std.proofs.Common.{◌≡◌, true, ◌++◌, arith}
 use Rattle.sample_key.specs.declared.losses.Pace.TheVariants.{Free}
-use Rattle.trace_model.specs.Streams.{records_in}
-use Rattle.run_model.specs.Running.{rounds, enough_rounds, sample_count}
+use Rattle.run_model.specs.Running.{rounds, enough_rounds}
 use Rattle.run_laws.specs.Laws.{run_so_far}
 use Rattle.run_rounds.proofs.runs_end_well.Goals as goal
 
