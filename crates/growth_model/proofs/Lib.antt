@@ -1,0 +1,7 @@
+pub mod Sums
+pub mod Rises
+pub mod Determined
+pub mod Rows
+mod TwoEpochs
+mod Nothing
+mod WrongGrowths

@@ -1,0 +1,14 @@
+//! Laws of growth: each function's contract is a law, and its body is empty.
+
+ghost use Rattle.growth_model.specs.Laws.{OnePartIsOne, FirstPartsAreOne, DrainsAddUp};
+
+/// What a database grows to is determined: by one part, and by the first parts of a run.
+pub fn growth_is_determined()
+    ensures part { OnePartIsOne }
+    ensures parts { FirstPartsAreOne }
+{}
+
+/// What drains add, taken together, is the sum of what some of them and the others add.
+pub fn drains_add_up()
+    ensures { DrainsAddUp }
+{}
