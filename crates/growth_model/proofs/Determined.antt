@@ -1,13 +1,13 @@
 -- What a database grows to is determined.
-use Rattle.std.proofs.Common.{◌≡◌, ℕ, zero, suc, ◌+◌, List, [], ◌∷◌, ◌++◌, refl, sym, ◌∙◌, ap, subst, arith, Bool, true, false, Some, None, Option}
+use Rattle.std.proofs.Common.{◌≡◌, ℕ, zero, suc, List, ◌++◌, refl, sym, ◌∙◌, ap, subst, Bool, true, false, Some, None, Option}
 use Rattle.std.specs.Prelude.{filter}
 use Rattle.trace_model.specs.declared.notices.Record.{Record}
 use Rattle.database_model.specs.declared.profiles.ProfileRow.{ProfileRow}
-use Rattle.database_model.specs.Runs.{Drained, Segment, Recorded}
+use Rattle.database_model.specs.Runs.{Segment, Recorded}
 use Rattle.run_model.specs.Shares.{segment_of}
 use Rattle.database_state.specs.Database.{Database}
 use Rattle.growth_model.specs.Additions.{Additions}
-use Rattle.growth_model.specs.Growth.{IsGrown, AreGrown, Selects, Grows, GrowsByPart, IsNewName}
+use Rattle.growth_model.specs.Growth.{IsGrown, Selects, Grows, GrowsByPart, IsNewName}
 use Rattle.growth_model.specs.Grown.{GrowsTo, Grown, epoch_after_parts}
 use Rattle.growth_model.proofs.Rises.{rows_are_one}
 
@@ -37,9 +37,9 @@ one_part images added epoch segment db new other a b =
     let runs : new.runs ≡ other.runs = a.runs ∙ sym b.runs in
     let names : new.names ≡ other.names = a.names ∙ ap {B = List (List ℕ)} (λ (z : List (List ℕ)). db.names ++ z) more ∙ sym b.names in
     let known : (e : ℕ) (name : List ℕ) (event : ℕ) → new.known e name event ≡ other.known e name event = λ e name event.
-      grown_once (added.known e name event) (db.known e name event) (new.known e name event) (other.known e name event) (a.known e name event) (b.known e name event) in
+    grown_once (added.known e name event) (db.known e name event) (new.known e name event) (other.known e name event) (a.known e name event) (b.known e name event) in
     let unknown : (e event : ℕ) → new.unknown e event ≡ other.unknown e event = λ e event.
-      grown_once (added.unknown e event) (db.unknown e event) (new.unknown e event) (other.unknown e event) (a.unknown e event) (b.unknown e event) in
+    grown_once (added.unknown e event) (db.unknown e event) (new.unknown e event) (other.unknown e event) (a.unknown e event) (b.unknown e event) in
     let segments : new.segments ≡ other.segments = a.segments ∙ sym b.segments in
     λ i. record {
       last_epoch = last i;
@@ -57,7 +57,7 @@ first_parts_from images records kept (suc part) db new other a b =
     let epoch = epoch_after_parts kept.first_epoch records (suc part) in
     let same : a.0 ≡ b.0 = first_parts_from images records kept part db a.0 b.0 a.1 b.1 in
     let by : GrowsByPart images records epoch (segment_of records kept part) a.0 other =
-      subst (λ (d : Database). GrowsByPart images records epoch (segment_of records kept part) d other) (sym same) b.2 in
+    subst (λ (d : Database). GrowsByPart images records epoch (segment_of records kept part) d other) (sym same) b.2 in
     one_part images _ epoch (segment_of records kept part) a.0 new other a.2 by
 
 pub first_parts : (images : List (List ℕ)) (records : List Record) (kept : Recorded) (parts : ℕ) (db new other : Database)

@@ -1,14 +1,13 @@
 -- The run of nothing fits an empty database.
-use Rattle.std.proofs.Common.{◌≡◌, ℕ, zero, suc, ◌+◌, ◌<◌, ◌≤◌, List, [], ◌∷◌, refl, arith, Bool, true, false, Some, None, Option}
+use Rattle.std.proofs.Common.{◌≡◌, zero, suc, ◌+◌, ◌<◌, ◌≤◌, [], ◌∷◌, refl, arith, Bool, true, false, Some, inr}
 use Rattle.std.specs.Prelude.{if◌then◌else◌, ◌==◌}
 use Rattle.trace_model.specs.Recording.{Recording}
-use Rattle.database_model.specs.Runs.{Drained, Recorded, Segment}
+use Rattle.database_model.specs.Runs.{Recorded, Segment}
 use Rattle.database_state.specs.Database.{Database, empty_database}
 use Rattle.database_state.specs.Heads.{Head, empty_head}
 use Rattle.growth_model.specs.Additions.{Additions, additions_of}
-use Rattle.growth_model.specs.Growth.{IsGrown, IsCounted, IsNewName, Selects, GrowsByPart}
-use Rattle.growth_model.specs.Grown.{Grown}
-use Rattle.growth_model.specs.Fitting.{HeadGrows, HeadGrowsTo, IsCountedAt, FitsAfter, KeepsLimits}
+use Rattle.growth_model.specs.Growth.{IsGrown, IsNewName, Selects, GrowsByPart}
+use Rattle.growth_model.specs.Fitting.{HeadGrows, KeepsLimits}
 use Rattle.growth_model.proofs.Rows.{usual, drained, kept, kept_of}
 
 abbrev nothing : Recording
@@ -70,8 +69,8 @@ heads = record {
   chosen = no_names;
   known_order = refl;
   unknown_order = refl;
-  known = λ epoch image event. record { anew = λ is. absurd (never (epoch == 0) is.counted.some); stays = λ none. refl };
-  unknown = λ epoch event. record { anew = λ is. absurd (never (epoch == 0) is.some); stays = λ none. refl };
+  known = λ epoch image event. inr (λ is. never (epoch == 0) is.counted.some, refl);
+  unknown = λ epoch event. inr (λ is. never (epoch == 0) is.some, refl);
 }
 
 fits : KeepsLimits [] [] nothing_kept empty_head empty_database

@@ -1,5 +1,5 @@
 -- Rising rows are fixed by what they count at each offset.
-use Rattle.std.proofs.Common.{◌≡◌, ◌⊎◌, ◌≢◌, ℕ, ◌+◌, ◌<◌, ◌≤◌, ◌==◌, List, [], ◌∷◌, refl, sym, ◌∙◌, ap, arith, Bool, true, false, cond, eqb, inl, inr}
+use Rattle.std.proofs.Common.{◌≡◌, ◌⊎◌, ◌≢◌, ℕ, ◌+◌, ◌<◌, ◌≤◌, List, [], ◌∷◌, refl, sym, ◌∙◌, arith, true, false, eqb, inl, inr}
 use Rattle.std.proofs.lemmas.Bool.{cond-true, cond-false}
 use Rattle.std.proofs.lemmas.Bool.Decides.{eqb_tells}
 use Rattle.database_model.specs.declared.profiles.ProfileRow.{ProfileRow}
@@ -39,7 +39,7 @@ not_before : (row other : ProfileRow) (rows others : List ProfileRow) (least : �
 not_before row other rows others least some rises same before =
     let counted : count_at (row ∷ rows) row.offset ≡ row.count = here row rows row.offset refl in
     let nothing : count_at (other ∷ others) row.offset ≡ 0 =
-      none_below other.offset (other ∷ others) row.offset (omega arith, rises.1, rises.2, rises.3) before in
+    none_below other.offset (other ∷ others) row.offset (omega arith, rises.1, rises.2, rises.3) before in
     let none : row.count ≡ 0 = sym counted ∙ same ∙ nothing in
     omega arith
 
@@ -72,9 +72,9 @@ same_rows least low (row ∷ rows) (other ∷ others) rise rises same =
     let below : other.offset < row.offset → ⊥ = not_before other row others rows least rises.2.some rise (sym (same other.offset)) in
     let at : row.offset ≡ other.offset = omega arith in
     let count : row.count ≡ other.count =
-      sym (here row rows row.offset refl) ∙ same row.offset ∙ here other others row.offset (sym at) in
+    sym (here row rows row.offset refl) ∙ same row.offset ∙ here other others row.offset (sym at) in
     let tails : rows ≡ others = same_rows (row.offset + 4) (other.offset + 4) rows others rise.3 rises.3
-      (λ offset. tail_same row other rows others rise.3 rises.3 at same offset (eqb_tells row.offset offset)) in
+    (λ offset. tail_same row other rows others rise.3 rises.3 at same offset (eqb_tells row.offset offset)) in
     λ i. record { offset = at i; count = count i } ∷ tails i
 
 pub rows_are_one : (rows others : List ProfileRow) → AreRows rows → AreRows others

@@ -1,11 +1,11 @@
 -- Worked growths, computed by the definitions.
-use Rattle.std.proofs.Common.{◌≡◌, ℕ, ◌+◌, ◌%◌, List, [], ◌∷◌, refl, Bool, true, false}
+use Rattle.std.proofs.Common.{◌≡◌, ℕ, ◌%◌, List, [], ◌∷◌, refl, Bool, true, false}
 use Rattle.std.specs.Prelude.{codes}
 use Rattle.sample_key.specs.Counted.{Counted, entry}
 use Rattle.sample_key.specs.declared.events.Event.{Event}
 use Rattle.sample_key.specs.declared.events.Event.TheVariants.{Cycles, Imiss}
 use Rattle.sample_key.specs.declared.keys.Key.{Key}
-use Rattle.sample_key.specs.declared.losses.Pace.TheVariants.{Free}
+use Rattle.sample_key.specs.declared.losses.Pace.TheVariants.{Free, Exact}
 use Rattle.trace_model.specs.Recording.{Recording, recording}
 use Rattle.trace_model.specs.Streams.{records_in}
 use Rattle.trace_model.specs.declared.notices.Line.{Line}
@@ -143,6 +143,21 @@ remapped_later = refl
 
 remapped_before : (part_adds remapped remapped_kept 0).known 0 image_a 0 4 ≡ 0
 remapped_before = refl
+
+-- the same at the exact pace: the drain of the sample is of its own moment, and what was put in force later changes nothing
+abbrev pub exact_kept : Recorded
+exact_kept = kept
+    (drained 0 0 1 0 1 [] [] ∷ drained 1 0 2 1 3 (one moved_key ∷ []) (true ∷ []) ∷ drained 2 0 3 1 5 [] []
+    ∷ drained 3 0 4 1 7 [] [] ∷ [])
+
+exact_is_kept : record_of 1 0 (reference_run Exact remapped 0) ≡ exact_kept
+exact_is_kept = refl
+
+exact_own : (part_adds remapped exact_kept 0).known 0 image_a 0 4 ≡ 1
+exact_own = refl
+
+exact_later : (part_adds remapped exact_kept 0).known 0 image_b 0 4 ≡ 0
+exact_later = refl
 
 -- the boundary of a mapping: the last instruction is known, the one behind it is not
 abbrev pub inside : Key

@@ -1,5 +1,5 @@
 -- The run of two epochs, worked out whole: the database to which it grows, from an empty one.
-use Rattle.std.proofs.Common.{◌≡◌, ℕ, ◌+◌, ◌<◌, ◌≤◌, ◌==◌, ◌&&◌, List, [], ◌∷◌, refl, sym, ◌∙◌, ap, arith, Bool, true, false, Some, None, Option, cond}
+use Rattle.std.proofs.Common.{◌≡◌, ℕ, ◌+◌, ◌<◌, ◌==◌, ◌&&◌, List, [], ◌∷◌, refl, sym, ◌∙◌, ap, arith, Bool, true, false, Some, None}
 use Rattle.std.specs.Prelude.{if◌then◌else◌}
 use Rattle.std.specs.Str.{bytes_eq}
 use Rattle.std.proofs.lemmas.Bool.Decides.{nat_tests}
@@ -41,7 +41,7 @@ after_both = record {
   runs = 1;
   names = image_a ∷ [];
   known = λ epoch name event.
-    Some (if epoch == 0 then if_here (is_here name event) else (if epoch == 1 then if_here (is_here name event) else []));
+      Some (if epoch == 0 then if_here (is_here name event) else (if epoch == 1 then if_here (is_here name event) else []));
   unknown = λ epoch event. Some [];
   segments = Some first_segment ∷ Some second_segment ∷ [];
 }
@@ -92,7 +92,7 @@ first_names = record {
     counted = record { offset = 0; some = some_added (bytes_eq name image_a) is };
   };
   fails = λ name not new.
-    none_added (new.epoch == 0) (bytes_eq name image_a) (new.event == 0) new.counted.offset not new.counted.some;
+      none_added (new.epoch == 0) (bytes_eq name image_a) (new.event == 0) new.counted.offset not new.counted.some;
   list = refl;
 }
 

@@ -69,6 +69,7 @@ additions_of images records drains = record {
 
 -- At each place the one adds what the two others add.
 pub record AreSums (first second both : Additions) : Type 0 where
-  pub known : (epoch : ℕ) (name : List ℕ) (event offset : ℕ) →
-      both.known epoch name event offset ≡ first.known epoch name event offset + second.known epoch name event offset
-  pub unknown : (epoch event pc : ℕ) → both.unknown epoch event pc ≡ first.unknown epoch event pc + second.unknown epoch event pc
+  pub known : (epoch : ℕ) (name : List ℕ) (event offset : ℕ) → both.known epoch name event offset
+      ≡ first.known epoch name event offset + second.known epoch name event offset
+  pub unknown : (epoch event pc : ℕ) →
+      both.unknown epoch event pc ≡ first.unknown epoch event pc + second.unknown epoch event pc

@@ -20,10 +20,12 @@ abbrev pub GrowsTo : List (List ℕ) → List Record → Recorded → ℕ → Da
 GrowsTo images records kept zero db new = new ≡ db
 GrowsTo images records kept (suc part) db new =
     (before : Database) × GrowsTo images records kept part db before
-    × GrowsByPart images records (epoch_after_parts kept.first_epoch records (suc part)) (segment_of records kept part) before new
+    × GrowsByPart images records (epoch_after_parts kept.first_epoch records (suc part))
+    (segment_of records kept part) before new
 
 -- The database after the first parts of a run. The run is the one after the last of the database, and begins in its last epoch.
-pub record Grown (images : List (List ℕ)) (records : List Record) (kept : Recorded) (parts : ℕ) (db new : Database) : Type 0 where
+pub record Grown (images : List (List ℕ)) (records : List Record) (kept : Recorded) (parts : ℕ) (db new : Database)
+    : Type 0 where
   pub within : parts ≤ part_count records
   pub run : 0 < parts → kept.run ≡ db.runs + 1
   pub first_epoch : 0 < parts → kept.first_epoch ≡ db.last_epoch

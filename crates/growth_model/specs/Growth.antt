@@ -45,16 +45,19 @@ pub record IsNewName (held : List (List ℕ)) (added : Additions) (name : List �
 
 -- One part: the counts are added, the images of the trace that are new and have a count are appended in the trace's order, and
 -- so is the segment. Its run is the last one, and the last epoch is the one that is given.
-pub record Grows (images : List (List ℕ)) (added : Additions) (epoch : ℕ) (segment : Segment) (db new : Database) : Type 0 where
+pub record Grows (images : List (List ℕ)) (added : Additions) (epoch : ℕ) (segment : Segment) (db new : Database)
+    : Type 0 where
   pub last_epoch : new.last_epoch ≡ epoch
   pub runs : new.runs ≡ segment.run
   pub more : List (List ℕ)
   pub names : new.names ≡ db.names ++ more
   pub chosen : Selects (IsNewName db.names added) images more
-  pub known : (e : ℕ) (name : List ℕ) (event : ℕ) → IsGrown (added.known e name event) (db.known e name event) (new.known e name event)
+  pub known : (e : ℕ) (name : List ℕ) (event : ℕ) →
+      IsGrown (added.known e name event) (db.known e name event) (new.known e name event)
   pub unknown : (e event : ℕ) → IsGrown (added.unknown e event) (db.unknown e event) (new.unknown e event)
   pub segments : new.segments ≡ db.segments ++ Some segment ∷ []
 
 -- the database grows by what the drains of a segment add
 abbrev pub GrowsByPart : List (List ℕ) → List Record → ℕ → Segment → Database → Database → Type 0
-GrowsByPart images records epoch segment db new = Grows images (additions_of images records segment.drains) epoch segment db new
+GrowsByPart images records epoch segment db new =
+    Grows images (additions_of images records segment.drains) epoch segment db new

@@ -9,15 +9,16 @@ use Rattle.growth_model.specs.Grown.{Grown}
 
 -- Two databases that grew from one by the same part are equal.
 abbrev pub OnePartIsOne : Type 0
-OnePartIsOne = (images : List (List ℕ)) (added : Additions) (epoch : ℕ) (segment : Segment) (db new other : Database)
-    → Grows images added epoch segment db new → Grows images added epoch segment db other → new ≡ other
+OnePartIsOne =
+    (images : List (List ℕ)) (added : Additions) (epoch : ℕ) (segment : Segment) (db new other : Database) → Grows images added epoch segment db new → Grows images added epoch segment db other → new ≡ other
 
 -- So are two that grew by the same first parts of a run.
 abbrev pub FirstPartsAreOne : Type 0
-FirstPartsAreOne = (images : List (List ℕ)) (records : List Record) (kept : Recorded) (parts : ℕ) (db new other : Database)
-    → Grown images records kept parts db new → Grown images records kept parts db other → new ≡ other
+FirstPartsAreOne =
+    (images : List (List ℕ)) (records : List Record) (kept : Recorded) (parts : ℕ) (db new other : Database) → Grown images records kept parts db new → Grown images records kept parts db other → new ≡ other
 
 -- Drains and more drains add what the first and the others add.
 abbrev pub DrainsAddUp : Type 0
 DrainsAddUp = (images : List (List ℕ)) (records : List Record) (first second : List Drained)
-    → AreSums (additions_of images records first) (additions_of images records second) (additions_of images records (first ++ second))
+    → AreSums (additions_of images records first) (additions_of images records second)
+    (additions_of images records (first ++ second))
