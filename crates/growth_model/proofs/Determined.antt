@@ -17,7 +17,7 @@ same_test false false a_holds a_fails b_holds b_fails = refl
 same_test true false a_holds a_fails b_holds b_fails = absurd (b_fails refl (a_holds refl))
 same_test false true a_holds a_fails b_holds b_fails = absurd (a_fails refl (b_holds refl))
 
-selected_once : {X : Type 0} (P : X → Type 0) (all some other : List X) → Selects P all some → Selects P all other → some ≡ other
+pub selected_once : {X : Type 0} (P : X → Type 0) (all some other : List X) → Selects P all some → Selects P all other → some ≡ other
 selected_once {X} P all some other a b =
     let tests : (x : X) → a.test x ≡ b.test x = λ x. same_test (a.test x) (b.test x) (a.holds x) (a.fails x) (b.holds x) (b.fails x) in
     let same : filter a.test all ≡ filter b.test all = λ i. filter (λ x. tests x i) all in

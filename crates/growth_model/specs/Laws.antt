@@ -3,9 +3,11 @@ use Rattle.std.specs.Prelude.{◌≡◌, ℕ, List, ◌++◌}
 use Rattle.trace_model.specs.declared.notices.Record.{Record}
 use Rattle.database_model.specs.Runs.{Drained, Segment, Recorded}
 use Rattle.database_state.specs.Database.{Database}
+use Rattle.database_state.specs.Heads.{Head}
 use Rattle.growth_model.specs.Additions.{Additions, additions_of, AreSums}
 use Rattle.growth_model.specs.Growth.{Grows}
 use Rattle.growth_model.specs.Grown.{Grown}
+use Rattle.growth_model.specs.Fitting.{HeadGrows, HeadGrowsTo}
 
 -- Two databases that grew from one by the same part are equal.
 abbrev pub OnePartIsOne : Type 0
@@ -16,6 +18,18 @@ OnePartIsOne =
 abbrev pub FirstPartsAreOne : Type 0
 FirstPartsAreOne =
     (images : List (List ℕ)) (records : List Record) (kept : Recorded) (parts : ℕ) (db new other : Database) → Grown images records kept parts db new → Grown images records kept parts db other → new ≡ other
+
+-- Two heads that grew from one by the same part are equal.
+abbrev pub OneHeadIsOne : Type 0
+OneHeadIsOne =
+    (images : List (List ℕ)) (added : Additions) (epoch : ℕ) (segment : Segment) (head new other : Head) →
+    HeadGrows images added epoch segment head new → HeadGrows images added epoch segment head other → new ≡ other
+
+-- So are two that grew by the same first parts of a run.
+abbrev pub FirstHeadsAreOne : Type 0
+FirstHeadsAreOne =
+    (images : List (List ℕ)) (records : List Record) (kept : Recorded) (parts : ℕ) (head new other : Head) →
+    HeadGrowsTo images records kept parts head new → HeadGrowsTo images records kept parts head other → new ≡ other
 
 -- Drains and more drains add what the first and the others add.
 abbrev pub DrainsAddUp : Type 0

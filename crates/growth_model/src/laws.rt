@@ -1,11 +1,17 @@
 //! Laws of growth: each function's contract is a law, and its body is empty.
 
-ghost use Rattle.growth_model.specs.Laws.{OnePartIsOne, FirstPartsAreOne, DrainsAddUp};
+ghost use Rattle.growth_model.specs.Laws.{OnePartIsOne, FirstPartsAreOne, OneHeadIsOne, FirstHeadsAreOne, DrainsAddUp};
 
 /// What a database grows to is determined: by one part, and by the first parts of a run.
 pub fn growth_is_determined()
     ensures part { OnePartIsOne }
     ensures parts { FirstPartsAreOne }
+{}
+
+/// So is the head under which its rows are counted.
+pub fn heads_are_determined()
+    ensures part { OneHeadIsOne }
+    ensures parts { FirstHeadsAreOne }
 {}
 
 /// What drains add, taken together, is the sum of what some of them and the others add.

@@ -6,4 +6,4 @@
 
 mod laws;
 
-pub use laws::{drains_add_up, growth_is_determined};
+pub use laws::{drains_add_up, growth_is_determined, heads_are_determined};
