@@ -1,11 +1,9 @@
 -- The head to which a head grows is determined.
-use Rattle.std.proofs.Common.{◌≡◌, ◌⊎◌, inl, inr, ℕ, zero, suc, ◌+◌, List, ◌++◌, refl, sym, ◌∙◌, ap, subst, true, Some, Option}
+use Rattle.std.proofs.Common.{◌≡◌, inl, inr, ℕ, zero, suc, List, ◌++◌, sym, ◌∙◌, ap, subst, Some, Option}
 use Rattle.trace_model.specs.declared.notices.Record.{Record}
 use Rattle.database_model.specs.Runs.{Segment, Recorded}
 use Rattle.run_model.specs.Shares.{segment_of}
 use Rattle.database_state.specs.Heads.{Head}
-use Rattle.database_state.specs.declared.rows.KnownRow.{KnownRow}
-use Rattle.database_state.specs.declared.rows.UnknownRow.{UnknownRow}
 use Rattle.database_state.specs.Rows.{known_before, known_same, unknown_before, unknown_same, known_row, unknown_row}
 use Rattle.growth_model.specs.Additions.{Additions, additions_of}
 use Rattle.growth_model.specs.Growth.{IsNewName, IsCounted}
@@ -31,21 +29,21 @@ one_head images added epoch segment head new other a b =
     let runs : new.runs ≡ other.runs = a.runs ∙ sym b.runs in
     let names : new.names ≡ other.names = a.names ∙ ap {B = List (List ℕ)} (λ (z : List (List ℕ)). head.names ++ z) more ∙ sym b.names in
     let found : (e image event : ℕ) → known_row new.known e image event ≡ known_row other.known e image event = λ e image event.
-      row_once (IsCountedAt added new.names e image event) (IsCountedAt added other.names e image event)
-      (known_written e image event new.generation) (known_written e image event other.generation)
-      (known_row head.known e image event) (known_row new.known e image event) (known_row other.known e image event)
-      (λ is. subst (λ (z : List (List ℕ)). IsCountedAt added z e image event) names is)
-      (λ is. subst (λ (z : List (List ℕ)). IsCountedAt added z e image event) (sym names) is)
-      (λ i. known_written e image event (generation i)) (a.known e image event) (b.known e image event) in
+    row_once (IsCountedAt added new.names e image event) (IsCountedAt added other.names e image event)
+    (known_written e image event new.generation) (known_written e image event other.generation)
+    (known_row head.known e image event) (known_row new.known e image event) (known_row other.known e image event)
+    (λ is. subst (λ (z : List (List ℕ)). IsCountedAt added z e image event) names is)
+    (λ is. subst (λ (z : List (List ℕ)). IsCountedAt added z e image event) (sym names) is)
+    (λ i. known_written e image event (generation i)) (a.known e image event) (b.known e image event) in
     let found_unknown : (e event : ℕ) → unknown_row new.unknown e event ≡ unknown_row other.unknown e event = λ e event.
-      row_once (IsCounted (added.unknown e event)) (IsCounted (added.unknown e event))
-      (unknown_written e event new.generation) (unknown_written e event other.generation)
-      (unknown_row head.unknown e event) (unknown_row new.unknown e event) (unknown_row other.unknown e event)
-      (λ is. is) (λ is. is) (λ i. unknown_written e event (generation i)) (a.unknown e event) (b.unknown e event) in
+    row_once (IsCounted (added.unknown e event)) (IsCounted (added.unknown e event))
+    (unknown_written e event new.generation) (unknown_written e event other.generation)
+    (unknown_row head.unknown e event) (unknown_row new.unknown e event) (unknown_row other.unknown e event)
+    (λ is. is) (λ is. is) (λ i. unknown_written e event (generation i)) (a.unknown e event) (b.unknown e event) in
     let known : new.known ≡ other.known = rows_are_found known_before known_same known_places new.known other.known
-      a.known_order b.known_order (λ p. found p.epoch p.image p.event) in
+    a.known_order b.known_order (λ p. found p.epoch p.image p.event) in
     let unknown : new.unknown ≡ other.unknown = rows_are_found unknown_before unknown_same unknown_places new.unknown other.unknown
-      a.unknown_order b.unknown_order (λ p. found_unknown p.epoch p.event) in
+    a.unknown_order b.unknown_order (λ p. found_unknown p.epoch p.event) in
     λ i. record {
       generation = generation i;
       epoch = last i;
@@ -64,5 +62,5 @@ first_heads images records kept (suc part) head new other a b =
     let segment = segment_of records kept part in
     let same : a.0 ≡ b.0 = first_heads images records kept part head a.0 b.0 a.1 b.1 in
     let by : HeadGrows images added epoch segment a.0 other =
-      subst (λ (h : Head). HeadGrows images added epoch segment h other) (sym same) b.2 in
+    subst (λ (h : Head). HeadGrows images added epoch segment h other) (sym same) b.2 in
     one_head images added epoch segment a.0 new other a.2 by

@@ -4,6 +4,7 @@ pub mod Determined
 pub mod Places
 pub mod HeadRows
 pub mod Rows
-mod TwoEpochs
+pub mod TwoEpochs
+mod TwoHeads
 mod Nothing
 mod WrongGrowths

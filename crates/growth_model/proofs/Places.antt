@@ -1,5 +1,5 @@
 -- Rising rows are fixed by what is found at each place.
-use Rattle.std.proofs.Common.{arith, ◌≡◌, ◌⊎◌, inl, inr, Bool, true, false, cond, ◌&&◌, List, [], ◌∷◌, None, Some, Option, refl, sym, ap, ◌∙◌}
+use Rattle.std.proofs.Common.{arith, ◌≡◌, ◌⊎◌, inl, inr, Bool, true, false, ◌&&◌, List, [], ◌∷◌, None, Some, refl, sym, ap, ◌∙◌}
 use Rattle.std.specs.Prelude.{find}
 use Rattle.std.proofs.lemmas.Grind.{common_steps}
 use Rattle.database_state.specs.Rows.{known_before, known_same, unknown_before, unknown_same, is_before_first, is_rising}
@@ -78,9 +78,9 @@ tail_finds before same order r o rows others at rise rises p finds (inl is) =
     let is_other : same p o ≡ true = sym (ap (same p) at) ∙ is in
     found_alike before same order p r rows is
     ∙ none_behind before same order r rows (and_first (is_before_first before r rows) (is_rising before rows) rise)
-      (and_second (is_before_first before r rows) (is_rising before rows) rise)
+    (and_second (is_before_first before r rows) (is_rising before rows) rise)
     ∙ sym (none_behind before same order o others (and_first (is_before_first before o others) (is_rising before others) rises)
-      (and_second (is_before_first before o others) (is_rising before others) rises))
+    (and_second (is_before_first before o others) (is_rising before others) rises))
     ∙ sym (found_alike before same order p o others is_other)
 tail_finds before same order r o rows others at rise rises p finds (inr apart) =
     let apart_other : same p o ≡ false = sym (ap (same p) at) ∙ apart in
@@ -115,8 +115,8 @@ rows_are_found {R} before same order (r ∷ rows) (o ∷ others) rise rises find
       | inl earlier ↦ absurd (missing before same order r o rows others earlier rises (finds r))
       | inr later ↦ elim (cases (same r o)) [
         | inl is ↦ joined before same order r o rows others rise rises is finds (λ found. rows_are_found before same order rows others
-          (and_second (is_before_first before r rows) (is_rising before rows) rise)
-          (and_second (is_before_first before o others) (is_rising before others) rises) found)
+            (and_second (is_before_first before r rows) (is_rising before rows) rise)
+            (and_second (is_before_first before o others) (is_rising before others) rises) found)
         | inr apart ↦ absurd (missing before same order o r others rows (order.other r o later apart) rise (sym (finds o)))
       ]
     ]

@@ -22,7 +22,7 @@ if_here true = one_row
 if_here false = []
 
 -- the profile of the image's cycles
-abbrev is_here : List ℕ → ℕ → Bool
+abbrev pub is_here : List ℕ → ℕ → Bool
 is_here name event = bytes_eq name image_a && event == 0
 
 abbrev after_first : Database
@@ -47,7 +47,7 @@ after_both = record {
 }
 
 -- what the one entry of a drain adds
-abbrev adds_one : Bool → Bool → ℕ → ℕ
+abbrev pub adds_one : Bool → Bool → ℕ → ℕ
 adds_one in_epoch here offset = (if in_epoch then (if here && offset == 0 then 1 else 0) + 0 else 0) + 0
 
 are_rows : AreRows one_row
@@ -82,7 +82,7 @@ none_added false is other offset not some = omega arith
 none_added true false other offset not some = omega arith
 none_added true true other offset not some = cc
 
-first_names : Selects (IsNewName [] (part_adds epochs epochs_kept 0)) (image_a ∷ []) (image_a ∷ [])
+pub first_names : Selects (IsNewName [] (part_adds epochs epochs_kept 0)) (image_a ∷ []) (image_a ∷ [])
 first_names = record {
   test = λ name. bytes_eq name image_a;
   holds = λ name is. record {
@@ -106,7 +106,7 @@ held_twice name true is new =
 held_twice name false is new =
     none_added (new.epoch == 1) (bytes_eq name image_a) (new.event == 0) new.counted.offset is new.counted.some
 
-second_names : Selects (IsNewName (image_a ∷ []) (part_adds epochs epochs_kept 1)) (image_a ∷ []) []
+pub second_names : Selects (IsNewName (image_a ∷ []) (part_adds epochs epochs_kept 1)) (image_a ∷ []) []
 second_names = record {
   test = λ name. false;
   holds = λ name is. absurd (cc);
