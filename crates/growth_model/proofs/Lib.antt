@@ -1,6 +1,7 @@
 pub mod Sums
 pub mod Rises
 pub mod Determined
+pub mod Alike
 pub mod Places
 pub mod HeadRows
 pub mod Rows

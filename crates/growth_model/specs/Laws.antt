@@ -1,7 +1,8 @@
 -- The laws of growth: it is determined, and what drains add adds up.
-use Rattle.std.specs.Prelude.{◌≡◌, ℕ, List, ◌++◌}
+use Rattle.std.specs.Prelude.{◌≡◌, ℕ, ◌<◌, List, ◌++◌}
 use Rattle.trace_model.specs.declared.notices.Record.{Record}
 use Rattle.database_model.specs.Runs.{Drained, Segment, Recorded}
+use Rattle.run_model.specs.Shares.{segment_of}
 use Rattle.database_state.specs.Database.{Database}
 use Rattle.database_state.specs.Heads.{Head}
 use Rattle.growth_model.specs.Additions.{Additions, additions_of, AreSums}
@@ -18,6 +19,14 @@ OnePartIsOne =
 abbrev pub FirstPartsAreOne : Type 0
 FirstPartsAreOne =
     (images : List (List ℕ)) (records : List Record) (kept : Recorded) (parts : ℕ) (db new other : Database) → Grown images records kept parts db new → Grown images records kept parts db other → new ≡ other
+
+-- Two runs with the same segments of the first parts grow a database alike, whatever comes later.
+abbrev pub FirstPartsDecide : Type 0
+FirstPartsDecide =
+    (images : List (List ℕ)) (records : List Record) (kept other : Recorded) (parts : ℕ) (db new : Database) →
+    kept.run ≡ other.run → kept.first_epoch ≡ other.first_epoch →
+    ((part : ℕ) → part < parts → segment_of records kept part ≡ segment_of records other part) →
+    Grown images records kept parts db new → Grown images records other parts db new
 
 -- Two heads that grew from one by the same part are equal.
 abbrev pub OneHeadIsOne : Type 0
