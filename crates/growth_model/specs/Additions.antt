@@ -21,7 +21,8 @@ pub record Additions : Type 0 where
 abbrev pub known_count : List (List ℕ) → List ℕ → ℕ → ℕ → Counted → Option Place → ℕ
 known_count images name event offset counted None = 0
 known_count images name event offset counted (Some place) =
-    if bytes_eq name (name_at images place.image) && event == code_of counted.key.event && offset == place.offset
+    if bytes_eq name (name_at images place.image) && event == code_of counted.key.event
+    && offset == place.offset
     then counted.count else 0
 
 -- what it adds at a program counter with no known mapping
@@ -41,7 +42,8 @@ known_of images place name event offset (counted ∷ entries) =
 abbrev pub unknown_of : (ℕ → ℕ → Option Place) → ℕ → ℕ → List Counted → ℕ
 unknown_of place event pc [] = 0
 unknown_of place event pc (counted ∷ entries) =
-    unknown_count event pc counted (place counted.key.pid counted.key.pc) + unknown_of place event pc entries
+    unknown_count event pc counted (place counted.key.pid counted.key.pc)
+    + unknown_of place event pc entries
 
 -- what drains add at an offset of an image in an epoch: each entry in its drain's epoch, and where the records that were in
 -- force at the drain place it

@@ -17,25 +17,29 @@ use Rattle.growth_model.specs.Growth.{IsCounted, Selects, IsNewName}
 use Rattle.growth_model.specs.Grown.{Grown, part_count, epoch_after_parts}
 
 -- something is added to the profile of an image by its number among these names
-pub record IsCountedAt (added : Additions) (names : List (List ℕ)) (epoch image event : ℕ) : Type 0 where
+pub record IsCountedAt (added : Additions) (names : List (List ℕ)) (epoch image event : ℕ)
+    : Type 0 where
   pub name : List ℕ
   pub number : place_of name names ≡ Some image
   pub counted : IsCounted (added.known epoch name event)
 
 -- The row of a place: where something is added to its profile it is written anew, else it stays as it was, if there was one.
 abbrev pub RowGrows : {R : Type 0} → Type 0 → R → Option R → Option R → Type 0
-RowGrows IsAddedTo written before after = (IsAddedTo × (after ≡ Some written)) ⊎ ((IsAddedTo → ⊥) × (after ≡ before))
+RowGrows IsAddedTo written before after =
+    (IsAddedTo × (after ≡ Some written)) ⊎ ((IsAddedTo → ⊥) × (after ≡ before))
 
 -- the row of a profile that is written at a generation
 abbrev pub known_written : ℕ → ℕ → ℕ → ℕ → KnownRow
-known_written epoch image event generation = record (known_place epoch image event) { g = generation }
+known_written epoch image event generation =
+    record (known_place epoch image event) { g = generation }
 
 -- the row of an unknown profile that is written at a generation
 abbrev pub unknown_written : ℕ → ℕ → ℕ → UnknownRow
 unknown_written epoch event generation = record (unknown_place epoch event) { g = generation }
 
 -- The head after one part: the next generation, the new names, and a row for each place that had one or has a count.
-pub record HeadGrows (images : List (List ℕ)) (added : Additions) (epoch : ℕ) (segment : Segment) (head new : Head)
+pub record HeadGrows (images : List (List ℕ)) (added : Additions) (epoch : ℕ) (segment : Segment)
+    (head new : Head)
     : Type 0 where
   pub generation : new.generation ≡ head.generation + 1
   pub last_epoch : new.epoch ≡ epoch
@@ -46,7 +50,8 @@ pub record HeadGrows (images : List (List ℕ)) (added : Additions) (epoch : ℕ
   pub known_order : is_rising known_before new.known ≡ true
   pub unknown_order : is_rising unknown_before new.unknown ≡ true
   pub known : (e image event : ℕ) →
-      RowGrows (IsCountedAt added new.names e image event) (known_written e image event new.generation)
+      RowGrows (IsCountedAt added new.names e image event)
+      (known_written e image event new.generation)
       (known_row head.known e image event) (known_row new.known e image event)
   pub unknown : (e event : ℕ) →
       RowGrows (IsCounted (added.unknown e event)) (unknown_written e event new.generation)
@@ -58,10 +63,12 @@ HeadGrowsTo images records kept zero head new = new ≡ head
 HeadGrowsTo images records kept (suc part) head new =
     (before : Head) × HeadGrowsTo images records kept part head before
     × HeadGrows images (additions_of images records (segment_of records kept part).drains)
-    (epoch_after_parts kept.first_epoch records (suc part)) (segment_of records kept part) before new
+    (epoch_after_parts kept.first_epoch records (suc part))
+    (segment_of records kept part) before new
 
 -- After the first parts there are a head and a database, and they are within the limits.
-pub record FitsAfter (images : List (List ℕ)) (records : List Record) (kept : Recorded) (parts : ℕ) (head : Head) (db : Database)
+pub record FitsAfter (images : List (List ℕ)) (records : List Record) (kept : Recorded) (parts : ℕ)
+    (head : Head) (db : Database)
     : Type 0 where
   pub head_after : Head
   pub after : Database

@@ -13,7 +13,8 @@ part_count records = last_part records + 1
 
 -- the last epoch after the first parts: each of the records that end them may begin one
 abbrev pub epoch_after_parts : ℕ → List Record → ℕ → ℕ
-epoch_after_parts first_epoch records parts = epoch_after first_epoch (take parts (filter ends_part records))
+epoch_after_parts first_epoch records parts =
+    epoch_after first_epoch (take parts (filter ends_part records))
 
 -- part after part, each with its drains and its segment
 abbrev pub GrowsTo : List (List ℕ) → List Record → Recorded → ℕ → Database → Database → Type 0
@@ -24,7 +25,8 @@ GrowsTo images records kept (suc part) db new =
     (segment_of records kept part) before new
 
 -- The database after the first parts of a run. The run is the one after the last of the database, and begins in its last epoch.
-pub record Grown (images : List (List ℕ)) (records : List Record) (kept : Recorded) (parts : ℕ) (db new : Database)
+pub record Grown (images : List (List ℕ)) (records : List Record) (kept : Recorded) (parts : ℕ)
+    (db new : Database)
     : Type 0 where
   pub within : parts ≤ part_count records
   pub run : 0 < parts → kept.run ≡ db.runs + 1

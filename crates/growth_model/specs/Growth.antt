@@ -22,7 +22,8 @@ pub record AreGrown (added : ℕ → ℕ) (rows grown : List ProfileRow) : Type 
 -- A profile after additions. A bad one stays bad, and nothing is added to it.
 abbrev pub IsGrown : (ℕ → ℕ) → Option (List ProfileRow) → Option (List ProfileRow) → Type 0
 IsGrown added None after = ((offset : ℕ) → added offset ≡ 0) × (after ≡ None)
-IsGrown added (Some rows) after = (grown : List ProfileRow) × (after ≡ Some grown) × AreGrown added rows grown
+IsGrown added (Some rows) after =
+    (grown : List ProfileRow) × (after ≡ Some grown) × AreGrown added rows grown
 
 -- something is added to a profile
 pub record IsCounted (added : ℕ → ℕ) : Type 0 where
@@ -45,7 +46,8 @@ pub record IsNewName (held : List (List ℕ)) (added : Additions) (name : List �
 
 -- One part: the counts are added, the images of the trace that are new and have a count are appended in the trace's order, and
 -- so is the segment. Its run is the last one, and the last epoch is the one that is given.
-pub record Grows (images : List (List ℕ)) (added : Additions) (epoch : ℕ) (segment : Segment) (db new : Database)
+pub record Grows (images : List (List ℕ)) (added : Additions) (epoch : ℕ) (segment : Segment)
+    (db new : Database)
     : Type 0 where
   pub last_epoch : new.last_epoch ≡ epoch
   pub runs : new.runs ≡ segment.run
@@ -54,7 +56,8 @@ pub record Grows (images : List (List ℕ)) (added : Additions) (epoch : ℕ) (s
   pub chosen : Selects (IsNewName db.names added) images more
   pub known : (e : ℕ) (name : List ℕ) (event : ℕ) →
       IsGrown (added.known e name event) (db.known e name event) (new.known e name event)
-  pub unknown : (e event : ℕ) → IsGrown (added.unknown e event) (db.unknown e event) (new.unknown e event)
+  pub unknown : (e event : ℕ) →
+      IsGrown (added.unknown e event) (db.unknown e event) (new.unknown e event)
   pub segments : new.segments ≡ db.segments ++ Some segment ∷ []
 
 -- the database grows by what the drains of a segment add
