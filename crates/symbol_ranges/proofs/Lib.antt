@@ -1,0 +1,5 @@
+pub mod Order
+pub mod Halving
+pub mod Adding
+pub mod Cutting
+pub mod Walking

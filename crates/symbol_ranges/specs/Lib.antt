@@ -1,0 +1,4 @@
+pub mod Lines
+pub mod Reads
+pub mod Index
+pub mod Reading
