@@ -8,15 +8,15 @@ use Rattle.std.proofs.lemmas.List.Folds.{list_any-append, find-append}
 use Rattle.std.proofs.Math.Seq.{get_or-append_seam}
 use Rattle.symbol_ranges.specs.declared.symbols.Symbol.{Symbol}
 use Rattle.symbol_ranges.specs.declared.symbols.TheConstants.{MOST_LINES}
-use Rattle.symbol_ranges.specs.Lines.{meets, covers}
+use Rattle.symbol_ranges.specs.Lines.{AreApart, meets, covers, overlaps}
 use Rattle.symbol_ranges.specs.Index.{is_before, symbol_at, shown, blank, Rises, AreWithin, IsIndexed}
 use Rattle.symbol_ranges.specs.Reads.{Fits}
-use Rattle.symbol_ranges.proofs.Order.{stands_behind, covered_twice}
+use Rattle.symbol_ranges.proofs.Order.{stands_behind, covered_twice, met_by}
 use Rattle.symbol_ranges.proofs.Halving.{all_shown, find_none}
 
 -- no lines
 pub none_held : (lines : List Symbol) (order : List ℕ) → lines ≡ [] → order ≡ [] → IsIndexed lines order
-none_held lines order e f = rw (e, f) (record { few = lit≤ tt; within = tt; rising = tt; finds = λ image offset. refl; meets_some = λ image first last. refl })
+none_held lines order e f = rw (e, f) (record { few = lit≤ tt; apart = tt; within = tt; rising = tt; finds = λ image offset. refl; meets_some = λ image first last. refl })
 
 all_insert : {X : Type 0} (P : X → Type 0) (front back : List X) (n : X) → AllByRecursion P (front ++ back) → P n → AllByRecursion P (front ++ n ∷ back)
 all_insert P [] back n all one = (one, all)
@@ -98,6 +98,16 @@ covers_none : (image : List ℕ) (offset : ℕ) (x : Symbol) (lines : List Symbo
 covers_none image offset x [] none h = tt
 covers_none image offset x (s ∷ lines) none h = (covered_twice image offset x s h none.0, covers_none image offset x lines none.1 h)
 
+apart_more : (lines : List Symbol) (x : Symbol) → AreApart lines → x.start < x.end → overlaps lines x.image x.start x.end ≡ false → AreApart (lines ++ x ∷ [])
+apart_more [] x apart some none = (some, refl, tt)
+apart_more (s ∷ lines) x apart some none =
+    let t = neither (meets x.image x.start (x.end - 1) s) (overlaps lines x.image x.start x.end) none in
+    (apart.0, list_any-append (meets s.image s.start (s.end - 1)) lines (x ∷ []) ∙ ap (λ (b : Bool). b || (meets s.image s.start (s.end - 1) x || false)) apart.1 ∙ ap (λ (b : Bool). b || false) (met_by s x apart.0 some t.0), apart_more lines x apart.2 some t.1)
+  where
+    neither : (a b : Bool) → (a || b) ≡ false → (a ≡ false) × (b ≡ false)
+    neither true b h = cc
+    neither false b h = (refl, h)
+
 -- ---- all together: the index in two parts, and the new place between them
 
 between : (lines : List Symbol) (front back : List ℕ) (x : Symbol) → IsIndexed lines (front ++ back) → Fits lines x → AllByRecursion (λ k. is_before x.image x.start (symbol_at lines k) ≡ true) front
@@ -112,6 +122,7 @@ between lines front back x held fits before behind =
     let none : AllByRecursion (λ s. p s ≡ false) (f ++ b) = no_any p (f ++ b) (ap (list_any p) (sym parts) ∙ held.meets_some x.image x.start (x.end - 1) ∙ fits.apart) in
     record {
       few = omega (arith, longer, fits.room);
+      apart = apart_more lines x held.apart fits.some fits.apart;
       within = all_insert (λ k. k < length (lines ++ x ∷ [])) front back (length lines) (more_within (front ++ back) (length lines) (length (lines ++ x ∷ [])) (omega (arith, longer)) held.within) (omega (arith, longer));
       rising = subst Rises (sym now) (rises_insert f b x (subst Rises parts held.rising) fits.some (all_shown (λ s. is_before x.image x.start s ≡ true) lines front before)
           (all_behind x b fits.some (all_shown (λ s. is_before x.image x.start s ≡ false) lines back behind) (all_back (λ s. p s ≡ false) f b none)));

@@ -3,3 +3,4 @@ pub mod Halving
 pub mod Adding
 pub mod Cutting
 pub mod Walking
+pub mod Exclusive

@@ -137,3 +137,8 @@ covered_twice image offset x s h none = false_from_ne_true (meets image offset o
     let p = meets_parts image offset offset x h in
     let q = meets_parts image offset offset s k in
     no_both (meets x.image x.start (x.end - 1) s) none (meets_whole x.image x.start (x.end - 1) s (q.0 ∙ sym p.0) (omega (arith, q.1, p.2)) (omega (arith, p.1, q.2))))
+
+-- two ranges have an offset in common, whichever is looked at first
+pub met_by : (s x : Symbol) → s.start < s.end → x.start < x.end → meets x.image x.start (x.end - 1) s ≡ false → meets s.image s.start (s.end - 1) x ≡ false
+met_by s x some full none = false_from_ne_true (meets s.image s.start (s.end - 1) x) (λ k. let p = meets_parts s.image s.start (s.end - 1) x k in
+    no_both (meets x.image x.start (x.end - 1) s) none (meets_whole x.image x.start (x.end - 1) s (sym p.0) (omega (arith, p.2)) (omega (arith, p.1, some))))

@@ -7,7 +7,7 @@ use Rattle.std.specs.Ordering.{nat_cmp}
 use Rattle.std.specs.Cmp.Lexicographic.{slice_cmp}
 use Rattle.symbol_ranges.specs.declared.symbols.TheConstants.{MOST_LINES}
 use Rattle.symbol_ranges.specs.declared.symbols.Symbol.{Symbol}
-use Rattle.symbol_ranges.specs.Lines.{covers, meets}
+use Rattle.symbol_ranges.specs.Lines.{AreApart, covers, meets}
 
 abbrev pub before_by : Ordering → Bool → Bool
 before_by Less ended = true
@@ -42,6 +42,7 @@ Rises (symbol ∷ more) = (symbol.start < symbol.end) × AllByRecursion (λ othe
 -- the index finds what the lines have
 pub record IsIndexed (lines : List Symbol) (order : List ℕ) : Type 0 where
   pub few : length lines ≤ MOST_LINES
+  pub apart : AreApart lines
   pub within : AreWithin lines order
   pub rising : Rises (shown lines order)
   pub finds : (image : List ℕ) (offset : ℕ) → find (covers image offset) (shown lines order) ≡ find (covers image offset) lines

@@ -2,3 +2,4 @@ pub mod Lines
 pub mod Reads
 pub mod Index
 pub mod Reading
+pub mod Readings

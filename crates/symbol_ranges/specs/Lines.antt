@@ -1,5 +1,5 @@
 -- Symbol lists: what each line says after those before it, or the first reason why it is refused.
-use Rattle.std.specs.Prelude.{◌≡◌, ◌≢◌, ℕ, ◌+◌, ◌-◌, ◌%◌, ◌^◌, ◌≤◌, ◌==◌, ◌&&◌, ◌||◌, nat_le, nat_lt, Bool, not, if◌then◌else◌, List, [], ◌∷◌, ◌++◌, length, find}
+use Rattle.std.specs.Prelude.{◌≡◌, ◌≢◌, ℕ, ◌+◌, ◌-◌, ◌%◌, ◌^◌, ◌<◌, ◌≤◌, ◌==◌, ◌&&◌, ◌||◌, nat_le, nat_lt, Bool, false, not, if◌then◌else◌, List, [], ◌∷◌, ◌++◌, length, find}
 use Rattle.std.specs.declared.option.Option.{Option}
 use Rattle.std.specs.declared.option.Option.TheVariants.{Some, None}
 use Rattle.std.specs.declared.result.Result.{Result}
@@ -31,6 +31,11 @@ named lines image offset = option_map (λ symbol. symbol.name) (find (covers ima
 -- the offsets from the start up to, without, the end have one in common with a line of the image
 abbrev pub overlaps : List Symbol → List ℕ → ℕ → ℕ → Bool
 overlaps lines image start end = list_any (meets image start (end - 1)) lines
+
+-- no two ranges of one image have an offset in common
+abbrev pub AreApart : List Symbol → Type 0
+AreApart [] = Unit {0}
+AreApart (symbol ∷ more) = (symbol.start < symbol.end) × (overlaps more symbol.image symbol.start symbol.end ≡ false) × AreApart more
 
 -- the fields of a line: it is cut at each space
 abbrev pub cut_at_spaces : List ℕ → List (List ℕ)

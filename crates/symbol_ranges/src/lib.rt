@@ -4,10 +4,12 @@
 
 mod fields;
 mod index;
+mod laws;
 mod reading;
 mod refusals;
 mod symbols;
 
+pub use laws::one_reading;
 pub use reading::read_symbols;
 pub use refusals::{SymbolLineError, SymbolRefusal, SymbolWhy};
 pub use symbols::{MOST_LINE_BYTES, MOST_LINES, Symbols};

@@ -3,7 +3,7 @@
 
 ghost use Rattle.std.specs.Prelude.{◌≡◌, ◌<◌, ◌≤◌, [], ◌∷◌, ◌++◌, ◌&&◌, true, false, length, find, OnOk, OnErr, IfErr, IfOk};
 ghost use Rattle.std.specs.Option.{option_copied};
-ghost use Rattle.symbol_ranges.specs.Lines.{are_titled, cut_at_spaces, meets, named, overlaps, verdict};
+ghost use Rattle.symbol_ranges.specs.Lines.{AreApart, are_titled, cut_at_spaces, meets, named, overlaps, verdict};
 ghost use Rattle.symbol_ranges.specs.Reads.{texts_of, Adds, Meeting, IsJudgedRange, IsRefusal, Fits, symbol_in};
 ghost use Rattle.symbol_ranges.specs.declared.symbols.TheConstants.{MOST_LINES};
 
@@ -67,7 +67,8 @@ impl Symbols {
 
     /// The procedure of an image whose range covers an offset; nothing exactly where none does.
     pub fn name_at(&self, image: &Name, offset: u64) -> Option<&Name>
-        ensures { option_copied result ≡ named self.now image.now offset }
+        ensures name { option_copied result ≡ named self.now image.now offset }
+        ensures apart { AreApart self.now }
     {
         match self.meeting(image.bytes(), offset, offset) {
             Some(symbol) => Some(&symbol.name),
@@ -135,7 +136,8 @@ impl Symbols {
     // A line of an image that has an offset from `first` to `last`: the first one by its range.
     fn meeting(&self, image: &[u8], first: u64, last: u64) -> Option<&Symbol>
         requires { first ≤ last }
-        ensures { Meeting self.now image.now first last (option_copied result) }
+        ensures found { Meeting self.now image.now first last (option_copied result) }
+        ensures apart { AreApart self.now }
     {
         first_meeting(&self.lines, &self.order, image, first, last)
     }
