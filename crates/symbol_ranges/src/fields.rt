@@ -85,7 +85,8 @@ pub fn range_of(fields: &Fields<'_>) -> Option<Range>
 
 /// Why the numbers of a line give no range.
 pub fn why_no_range(fields: &Fields<'_>) -> SymbolWhy
-    ensures { result ≡ (if are_spelled (texts_of fields.now) then SymbolWhy.OutOfRange else SymbolWhy.BadNumber) }
+    ensures { result ≡ (if are_spelled (texts_of fields.now)
+        then SymbolWhy.OutOfRange else SymbolWhy.BadNumber) }
 {
     if is_hex(fields.start) && is_hex(fields.length) {
         SymbolWhy::OutOfRange

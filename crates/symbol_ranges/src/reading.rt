@@ -15,7 +15,8 @@ use std::alloc::Global;
 /// Reads a symbol list to its end, or to its first bad line. `Bad` comes exactly where the input is no list; at `Ok`
 /// nothing of the input is left unread, and an input that never ends is refused.
 pub fn read_symbols<S: Source>(alloc: Global, source: &mut S) -> Result<Symbols, SymbolRefusal>
-    ensures reads { IfOk result (λ symbols. IfSome (S.left source.old) (λ bytes. Reads bytes symbols)) }
+    ensures reads { IfOk result (λ symbols.
+        IfSome (S.left source.old) (λ bytes. Reads bytes symbols)) }
     ensures whole { OnOk result (IsAtEnd (S.left source.new)) }
     ensures bad { OnBad (IsFirstBad (S.left source.old)) result }
     ensures faults { TellsFaults (S.faults source.old) (S.faults source.new) result }

@@ -146,7 +146,8 @@ impl Symbols {
     fn push(&mut self, alloc: Global, fields: &Fields<'_>, range: Range) -> Result<(), AllocError>
         requires fits { Fits self.old (symbol_in (texts_of fields.now) range) }
         requires titled { are_titled (texts_of fields.now) ≡ true }
-        ensures pushed { OnOk result (self.new ≡ self.old ++ symbol_in (texts_of fields.now) range ∷ []) }
+        ensures pushed { OnOk result
+            (self.new ≡ self.old ++ symbol_in (texts_of fields.now) range ∷ []) }
         ensures few { OnOk result (length self.new ≤ MOST_LINES) }
         ensures kept { OnErr result (self.new ≡ self.old) }
     {
