@@ -1,11 +1,12 @@
--- The line that a status brings on the error output.
-use Rattle.std.specs.Prelude.{◌≡◌, ℕ, ◌==◌, if◌then◌else◌, List, [], ◌∷◌, ◌++◌, ◌⊎◌, codes}
-use Rattle.std.specs.declared.option.Option.{Option}
+-- The line that a refusal brings on the error output.
+use Rattle.std.specs.Prelude.{◌≡◌, ℕ, List, [], ◌∷◌, ◌++◌, ◌⊎◌, codes}
 use Rattle.std.specs.Fmt.{decimal}
 use Rattle.std.specs.Io.KnownBytes.{Appends}
-use Rattle.outside_io.specs.Causes.{Rose}
 use Rattle.trace_model.specs.declared.reasons.TraceWhy.{TraceWhy}
 use Rattle.trace_model.specs.declared.reasons.TraceWhy.TheVariants.{NotHeader, BadWord, AfterEnd, BadNumber, OutOfRange, Unaligned, BadName, NoSuchCpu, ScanTooLate, TooManySamples, TooManyRecords, NoEnd}
+use Rattle.dcpi_top.specs.declared.refusals.Refusal.{Refusal}
+use Rattle.dcpi_top.specs.declared.refusals.Refusal.TheVariants.{Usage, TraceBad, ReadFault, WriteFault, Memory}
+use Rattle.dcpi_top.specs.Streams.{Stream, HasFailed}
 
 -- the word for a reason
 abbrev pub word_of : TraceWhy → List ℕ
@@ -22,22 +23,39 @@ word_of TooManySamples = codes "TooManySamples"
 word_of TooManyRecords = codes "TooManyRecords"
 word_of NoEnd = codes "NoEnd"
 
--- the line of a bad trace, and its words before the number
-abbrev pub bad_start : List ℕ
-bad_start = codes "dcpi: trace line "
+-- a line with its line feed
+abbrev pub ended : List ℕ → List ℕ
+ended words = words ++ 10 ∷ []
 
-abbrev pub bad_line : ℕ → TraceWhy → List ℕ
-bad_line number why = bad_start ++ decimal number ++ 58 ∷ 32 ∷ (word_of why ++ 10 ∷ [])
+-- the line up to its first number, which takes no memory: the whole line where it has none
+abbrev pub first_words : Refusal → List ℕ
+first_words Usage = ended (codes "dcpi: usage")
+first_words (TraceBad line why) = codes "dcpi: trace line "
+first_words ReadFault = ended (codes "dcpi: read fault")
+first_words WriteFault = ended (codes "dcpi: write fault")
+first_words Memory = ended (codes "dcpi: out of memory")
 
--- the lines of the other statuses
-abbrev pub line_of : ℕ → List ℕ
-line_of status = if status == 1 then codes "dcpi: usage" ++ 10 ∷ [] else (if status == 3 then codes "dcpi: read fault" ++ 10 ∷ [] else (if status == 5 then codes "dcpi: write fault" ++ 10 ∷ [] else codes "dcpi: out of memory" ++ 10 ∷ []))
+-- the number of a bad line and its reason
+abbrev pub place_words : ℕ → TraceWhy → List ℕ
+place_words line why = decimal line ++ (codes ": " ++ (word_of why ++ 10 ∷ []))
 
--- the line was written, or a front of it: at least these words where there was no memory for the rest, and less only
--- where a write failed
-pub record Tells (line least : List ℕ) (old new : Option (List ℕ)) (before now : ℕ) : Type 0 where
-  pub front : List ℕ
-  pub back : List ℕ
-  pub line_is : line ≡ front ++ back
-  pub told : Appends old new front
-  pub enough : (back ≡ []) ⊎ ((more : List ℕ) × (front ≡ least ++ more)) ⊎ Rose before now
+-- the line from its first number on
+abbrev pub last_words : Refusal → List ℕ
+last_words Usage = []
+last_words (TraceBad line why) = place_words line why
+last_words ReadFault = []
+last_words WriteFault = []
+last_words Memory = []
+
+-- the line of a refusal
+abbrev pub line_of : Refusal → List ℕ
+line_of refusal = first_words refusal ++ last_words refusal
+
+-- The line was written, or a prefix of it: at least its first words where there was no memory for the rest, and less
+-- only where a write failed.
+pub record Tells (refusal : Refusal) (errors : Stream) : Type 0 where
+  pub prefix : List ℕ
+  pub rest : List ℕ
+  pub line : line_of refusal ≡ prefix ++ rest
+  pub written : Appends errors.old errors.new prefix
+  pub enough : ((more : List ℕ) × (prefix ≡ first_words refusal ++ more)) ⊎ HasFailed errors

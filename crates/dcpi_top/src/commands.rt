@@ -1,3 +1,4 @@
+//! The forms of commands.
 ghost use Rattle.std.specs.Prelude.{◌≡◌, ◌∷◌, [], map, string_bytes};
 ghost use Rattle.dcpi_top.specs.Commands.{command_of};
 

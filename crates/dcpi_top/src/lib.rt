@@ -6,12 +6,11 @@ mod answering;
 mod commands;
 mod messages;
 mod plains;
+mod refusals;
 
 pub use answering::dcpi_still;
 pub use commands::{Command, words_of};
 pub use direct_counts::{counts_text, plain_counts};
 pub use plains::plain;
-pub use trace_text::TraceRefusal;
-
-#[cfg(test)]
-mod tests;
+pub use refusals::Refusal;
+pub use trace_text::{TraceRefusal, TraceWhy};

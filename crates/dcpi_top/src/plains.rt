@@ -1,3 +1,4 @@
+//! The command `plain`: the counts by place of a trace, taken from the trace alone.
 ghost use Rattle.std.specs.Prelude.{IfOk, OnOk};
 ghost use Rattle.std.specs.Io.KnownBytes.{IsAtEnd};
 ghost use Rattle.trace_text.specs.Refusing.{IsFirstBadOf, TellsFaults};

@@ -1,11 +1,12 @@
-use Rattle.dcpi_top.proofs.Told.{no_first_bad, no_listing}
+use Rattle.std.proofs.Common.{refl, subst, sym}
+use Rattle.dcpi_top.specs.Answers.{Answers}
+use Rattle.dcpi_top.specs.Streams.{stream}
+use Rattle.dcpi_top.proofs.Promises.{refused, served}
 use Rattle.dcpi_top.proofs.answering.dcpi_still.Goals as goal
 
-pub returns-in-Bad-clause-complete : goal.returns-in-Bad-clause-complete
-returns-in-Bad-clause-complete g c trace form read written = absurd (no_first_bad c.one_reading.ensures.not_both (g.S.Source.left c.args.source.now) c.in-Bad.line c.in-Bad.why (rw c.in-Bad.is at c.in-Err.ensures.bad) trace)
+pub returns-in-Ok : goal.returns-in-Ok
+returns-in-Ok g c = served c.one_reading.ensures.not_both _ _ _ (stream g.E.Sink.written g.E.Sink.faults c.args.err.now c.args.err.now) c.in-Ok.ensures (record { bytes = refl; faults = refl })
 
-pub returns-in-Ok-put_all-clause-refuses : goal.returns-in-Ok-put_all-clause-refuses
-returns-in-Ok-put_all-clause-refuses g c bad form read = absurd (no_listing c.one_reading.ensures.not_both (g.S.Source.left c.args.source.now) c.in-Ok.text.items c.in-Ok.ensures.text bad)
-
-pub returns-in-Ok-clause-refuses : goal.returns-in-Ok-clause-refuses
-returns-in-Ok-clause-refuses g c bad form read = absurd (no_listing c.one_reading.ensures.not_both (g.S.Source.left c.args.source.now) c.in-Ok.text.items c.in-Ok.ensures.text bad)
+pub returns-in-Err : goal.returns-in-Err
+returns-in-Err g c = subst (Answers _ _ _ _) (sym c.status.ensures)
+    (refused c.one_reading.ensures.not_both _ _ _ _ c.in-Err.refusal c.in-Err.ensures c.tell.ensures.told c.tell.ensures.counts)
