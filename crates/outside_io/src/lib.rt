@@ -7,8 +7,6 @@
 mod gates;
 mod memory;
 mod streams;
-#[cfg(test)]
-mod tests;
 mod traits;
 mod writing;
 

@@ -21,6 +21,3 @@ pub use keys::{Key, Marked};
 pub use limits::{LAST_CELL, LAST_CPU, MOST_COUNT, MOST_SAMPLES};
 pub use losses::{Loss, Pace};
 pub use notes::Note;
-
-#[cfg(test)]
-mod tests;

@@ -1,7 +1,8 @@
 //! Codes and names both ways, keys, a body through its bound, and that the types may go to threads.
 ghost use Rattle.std.specs.Prelude.{◌≡◌, ◌%◌};
 
-use super::{Batch, Body, Entry, Event, Key, Loss, Marked, Note, Pace, Parcel};
+use crate::threads::{needs_send, needs_sync};
+use sample_key::{Batch, Body, Entry, Event, Key, Loss, Marked, Note, Pace, Parcel};
 use std::alloc::AllocError;
 use std::test::Fail;
 
@@ -47,10 +48,6 @@ fn keys_compare_by_all_fields(rt: HostRuntime) {
     assert_eq!(rt; sample.key == key, true);
     assert_eq!(rt; sample.mark, 3);
 }
-
-fn needs_send<T: Send>(_value: &T) {}
-
-fn needs_sync<T: Sync>(_value: &T) {}
 
 fn key_at(pc: u64) -> Key
     requires { pc % 4 ≡ 0 }

@@ -1,5 +1,9 @@
 //! Sources and sinks through their bounds, whole and with a fault; the gate that holds nobody.
-use super::*;
+use crate::threads::{needs_send, needs_sync};
+use outside_io::{
+    Gate, ListedFaults, MemSink, MemSource, OpenGate, ReadFailed, Source, StdSink, StdSource,
+    WriteFault, put_all,
+};
 use std::io::Cursor;
 use std::test::Fail;
 
@@ -12,8 +16,6 @@ fn three_reads<S: Source>(source: &mut S) -> [Result<usize, ReadFailed>; 3] {
         source.read(&mut piece),
     ]
 }
-
-fn is_shared<T: Send + Sync>(_: &T) {}
 
 #[test]
 fn sources_give_all_and_fail_where_listed(rt: HostRuntime) -> Result<(), Fail> {
@@ -47,7 +49,8 @@ fn all_is_put_or_a_front_of_it(rt: HostRuntime) -> Result<(), Fail> {
 #[test]
 fn the_open_gate_holds_nobody(rt: HostRuntime) {
     let gate = OpenGate;
-    is_shared(&gate);
+    needs_send(&gate);
+    needs_sync(&gate);
     gate.at(0);
     let _ = rt;
 }

@@ -1,0 +1,13 @@
+//! Tests of the lowest crates, as tables: numbers and names in text, streams, samples and their batches.
+#![tactic(auto)]
+
+#[cfg(test)]
+mod names;
+#[cfg(test)]
+mod numbers;
+#[cfg(test)]
+mod samples;
+#[cfg(test)]
+mod streams;
+#[cfg(test)]
+mod threads;
