@@ -42,6 +42,10 @@ number base text = if is_canonical base text && nat_lt (value_of base text) (2 ^
 abbrev pub HasSpelling : ℕ → Type 0
 HasSpelling base = (text : List ℕ) (n : ℕ) → (number base text ≡ Some n) ↔ ((n < 2 ^ 64) × (text ≡ digits base false n))
 
+-- a text with more at its end, or as it was where nothing could be written
+abbrev pub appended : Bool → List ℕ → List ℕ → List ℕ
+appended written before text = if written then before ++ text else before
+
 -- hundredths as a whole number with two decimals
 abbrev pub hundredths : ℕ → List ℕ
 hundredths n = decimal (n / 100) ++ 46 ∷ (decimal (n / 10 % 10) ++ decimal (n % 10))

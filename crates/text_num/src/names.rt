@@ -34,11 +34,12 @@ impl Model for Name {
 
 impl Name {
     ghost use Rattle.std.specs.Prelude.{◌≡◌, MatchOption, IfOk, true, false};
-    ghost use Rattle.text_num.specs.Names.{is_name};
+    ghost use Rattle.text_num.specs.Names.{IsNameOf, is_name};
 
     /// The name of these bytes; nothing exactly where they are no name.
     pub fn of_bytes(alloc: Global, bytes: &[u8]) -> Result<Option<Name>, AllocError>
-        ensures { IfOk result (λ found. MatchOption found (is_name bytes.now ≡ false) (λ name. (is_name bytes.now ≡ true) × (name ≡ bytes.now))) }
+        ensures { IfOk result (λ found.
+            MatchOption found (is_name bytes.now ≡ false) (IsNameOf bytes.now)) }
     {
         if !is_name(bytes) {
             return Ok(None);
@@ -82,7 +83,8 @@ impl Ord for Name {
 impl PartialOrd for Name {
     ghost partial_cmp = { as_partial_cmp (slice_cmp nat_cmp) };
 
-    ghost laws = { partial_order_from_own_ties (Prim.search (comparing, rules)) (Prim.search (comparing, rules)) };
+    ghost laws = { partial_order_from_own_ties
+        (Prim.search (comparing, rules)) (Prim.search (comparing, rules)) };
 
     fn partial_cmp(&self, other: &Name) -> Option<Ordering> {
         Some(self.cmp(other))

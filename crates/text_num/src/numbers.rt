@@ -1,11 +1,15 @@
 //! Canonical numbers: read exactly where a text spells one, and appended in their one spelling.
-ghost use Rattle.std.specs.Prelude.{◌≡◌, ℕ, ◌+◌, ◌*◌, ◌^◌, ◌<◌, ◌≤◌, ◌++◌, nat_lt, ◌&&◌, if◌then◌else◌, is_ok, false};
+ghost use Rattle.std.specs.Prelude.{◌≡◌, ◌<◌, ◌≤◌, drop, is_ok, false};
 ghost use Rattle.std.specs.List.{list_all};
-ghost use Rattle.std.specs.Fmt.{decimal, digits};
-ghost use Rattle.text_num.specs.Numbers.{digit_value, is_digit, has_leading_zero, is_canonical, value_after, value_of, number, number_after, HasSpelling, hundredths};
+ghost use Rattle.std.specs.Fmt.{decimal, digit_glyph, digits};
+ghost use Rattle.text_num.specs.Numbers.{appended, digit_value, is_digit, has_leading_zero};
+ghost use Rattle.text_num.specs.Numbers.{is_canonical, number, number_after, HasSpelling, hundredths};
 
 use itoa::Buffer;
 use std::alloc::AllocError;
+
+/// The digits of the longest hexadecimal below 2^64.
+const MOST_HEX_DIGITS: usize = 16;
 
 /// Of each number below 2^64 one text is the canonical decimal, and one the canonical hexadecimal.
 pub fn one_spelling()
@@ -43,7 +47,7 @@ pub fn is_hex(text: &[u8]) -> bool
 
 /// Appends the canonical decimal. Where no memory is found `out` is as before.
 pub fn put_dec(out: &mut Vec<u8>, n: u128) -> Result<(), AllocError>
-    ensures { out.new.items ≡ (if is_ok result then out.old.items ++ decimal n else out.old.items) }
+    ensures { out.new.items ≡ appended (is_ok result) out.old.items (decimal n) }
 {
     let mut buffer = Buffer::new();
     out.extend_from_slice(buffer.format(n).as_bytes())
@@ -51,15 +55,44 @@ pub fn put_dec(out: &mut Vec<u8>, n: u128) -> Result<(), AllocError>
 
 /// Appends the canonical hexadecimal. Where no memory is found `out` is as before.
 pub fn put_hex(out: &mut Vec<u8>, n: u64) -> Result<(), AllocError>
-    ensures { out.new.items ≡ (if is_ok result then out.old.items ++ digits 16 false n else out.old.items) }
+    ensures { out.new.items ≡ appended (is_ok result) out.old.items (digits 16 false n) }
 {
-    let text = format!(in *out.allocator(); "{n:x}")?;
-    out.extend_from_slice(text.as_bytes())
+    let mut buffer = [0; MOST_HEX_DIGITS];
+    let start = write_hex(n, &mut buffer);
+    out.extend_from_slice(&buffer[start..])
+}
+
+// Writes the digits to the end of the buffer, the last one first, and answers where they begin.
+fn write_hex(n: u64, buffer: &mut [u8; MOST_HEX_DIGITS]) -> usize
+    ensures start { result ≤ 16 }
+    ensures written { drop result buffer.new ≡ digits 16 false n }
+{
+    let mut left = n;
+    let mut at = MOST_HEX_DIGITS;
+    while left >= 16 {
+        at -= 1;
+        buffer[at] = hex_digit(left % 16);
+        left /= 16;
+    }
+    at -= 1;
+    buffer[at] = hex_digit(left);
+    at
+}
+
+fn hex_digit(digit: u64) -> u8
+    requires { digit < 16 }
+    ensures { result ≡ digit_glyph false digit }
+{
+    if digit < 10 {
+        b'0' + digit as u8
+    } else {
+        b'a' + (digit - 10) as u8
+    }
 }
 
 /// Appends hundredths as whole units with two decimals: 1234 gives `12.34`. Where no memory is found `out` is as before.
 pub fn put_hundredths(out: &mut Vec<u8>, n: u32) -> Result<(), AllocError>
-    ensures { out.new.items ≡ (if is_ok result then out.old.items ++ hundredths n else out.old.items) }
+    ensures { out.new.items ≡ appended (is_ok result) out.old.items (hundredths n) }
 {
     let units = n / 100;
     let tenths = n / 10 % 10;
