@@ -16,10 +16,10 @@ one_more : (n : ℕ) → 1 + n ≡ suc n
 one_more n = omega arith
 
 -- a range that ends at the address or before it is counted
-ended_yes : (pc : ℕ) (r : Range) (rs : List Range) → leb r.end pc ≡ true → ended_by pc (r ∷ rs) ≡ suc (ended_by pc rs)
+pub ended_yes : (pc : ℕ) (r : Range) (rs : List Range) → leb r.end pc ≡ true → ended_by pc (r ∷ rs) ≡ suc (ended_by pc rs)
 ended_yes pc r rs h = rw h (one_more (ended_by pc rs))
 
-ended_no : (pc : ℕ) (r : Range) (rs : List Range) → leb r.end pc ≡ false → ended_by pc (r ∷ rs) ≡ 0
+pub ended_no : (pc : ℕ) (r : Range) (rs : List Range) → leb r.end pc ≡ false → ended_by pc (r ∷ rs) ≡ 0
 ended_no pc r rs h = rw h refl
 
 cons_same : {a b : Range} {rs qs : List Range} → a ≡ b → rs ≡ qs → a ∷ rs ≡ b ∷ qs

@@ -4,3 +4,4 @@ pub mod Halving
 pub mod Applying
 pub mod Cases
 pub mod Covering
+pub mod Inserting

@@ -1,5 +1,5 @@
 -- Ranges of addresses in an ordered list without overlaps: where an address lies in it, and what a cut leaves of it.
-use Rattle.std.specs.Prelude.{◌≡◌, ℕ, ◌-◌, ◌%◌, ◌<◌, ◌≤◌, ◌&&◌, nat_le, nat_lt, min, max, Bool, true, if◌then◌else◌, List, [], ◌∷◌, ◌++◌, option_to_list}
+use Rattle.std.specs.Prelude.{◌≡◌, ℕ, ◌-◌, ◌%◌, ◌<◌, ◌≤◌, ◌&&◌, nat_le, nat_lt, min, max, take, drop, Bool, true, if◌then◌else◌, List, [], ◌∷◌, ◌++◌, option_to_list}
 use Rattle.std.specs.List.{Contains, prefix_len}
 use Rattle.std.specs.declared.option.Option.{Option}
 use Rattle.std.specs.declared.option.Option.TheVariants.{Some, None}
@@ -84,3 +84,12 @@ right_of end (range ∷ ranges) = cut_after end range ∷ []
 abbrev pub first_place : List Range → ℕ → Option Place
 first_place [] pc = None
 first_place (range ∷ ranges) pc = if nat_le range.base pc then Some (place_at range pc) else None
+
+-- whether the first range, if there is one, begins at an address or behind it
+abbrev pub is_free_to : ℕ → List Range → Bool
+is_free_to end [] = true
+is_free_to end (range ∷ ranges) = nat_le end range.base
+
+-- ranges with one more at an index, if there is one
+abbrev pub with_some : ℕ → Option Range → List Range → List Range
+with_some at new ranges = take at ranges ++ (option_to_list new ++ drop at ranges)

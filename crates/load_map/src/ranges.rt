@@ -1,7 +1,7 @@
 //! An ordered list of ranges without overlaps: `Ranges::place` finds an address by halving, `Ranges::put` and
 //! `Ranges::cut` cut what a range covers. The ranges rise and stand apart at every moment.
 ghost use Rattle.std.specs.Prelude.{◌≡◌, ℕ, ◌≤◌, ◌<◌, ◌+◌, ◌%◌, min, length, nat_le, List, [], ◌∷◌, ◌++◌, IfOk, OnOk, OnErr, IfSome, option_to_list};
-ghost use Rattle.load_map.specs.Ranges.{IsRange, RangesFrom, place_at, place_in, with_range, without_range, IsExchanged, left_of, right_of, first_place, ended_by};
+ghost use Rattle.load_map.specs.Ranges.{IsRange, RangesFrom, place_at, place_in, with_range, without_range, IsExchanged, left_of, right_of, first_place, ended_by, is_free_to, with_some};
 
 use std::alloc::{AllocError, Global};
 use std::marker::Model;
@@ -125,6 +125,49 @@ fn first_place(ranges: &[Range], pc: u64) -> Option<Place>
 
 // Takes away what lies from `base` up to `end`, and puts a range there, if there is one.
 fn exchange(
+    ranges: &mut Vec<Range>,
+    alloc: Global,
+    base: u64,
+    end: u64,
+    new: Option<Range>,
+) -> Result<(), AllocError>
+    requires rising { RangesFrom 0 ranges.old.items }
+    requires order { base < end }
+    ensures exchanged { OnOk result (IsExchanged base end new ranges.old.items ranges.new.items) }
+    ensures refused { OnErr result (ranges.new.items ≡ ranges.old.items) }
+{
+    let first = count_ended(ranges, base);
+    if is_free_to(&ranges[first..], end) {
+        insert_some(ranges, first, new)
+    } else {
+        exchange_covered(ranges, alloc, base, end, new)
+    }
+}
+
+// Whether the first of these ranges, if there is one, begins at an address or behind it.
+fn is_free_to(ranges: &[Range], end: u64) -> bool
+    ensures { result ≡ is_free_to end ranges.now }
+{
+    match ranges {
+        [range, ..] => end <= range.base,
+        [] => true,
+    }
+}
+
+// Puts a range at an index, if there is one.
+fn insert_some(ranges: &mut Vec<Range>, at: usize, new: Option<Range>) -> Result<(), AllocError>
+    requires { at ≤ length ranges.old.items }
+    ensures inserted { OnOk result (ranges.new.items ≡ with_some at new ranges.old.items) }
+    ensures refused { OnErr result (ranges.new.items ≡ ranges.old.items) }
+{
+    if let Some(range) = new {
+        ranges.insert(at, range)?;
+    }
+    Ok(())
+}
+
+// The same as `exchange` where something is taken away.
+fn exchange_covered(
     ranges: &mut Vec<Range>,
     alloc: Global,
     base: u64,
