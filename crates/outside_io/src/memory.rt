@@ -1,5 +1,5 @@
 //! A source and a sink in memory, for tests, which fail at the calls that are listed.
-ghost use Rattle.std.specs.Prelude.{◌≡◌, ◌≢◌, ℕ, ◌<◌, ◌⊎◌, ◌↔◌, List, [], length, Some, IsTrue, IsErr, IfOk, OnErr, Contains};
+ghost use Rattle.std.specs.Prelude.{◌≡◌, ◌≢◌, ℕ, ◌<◌, ◌↔◌, List, [], length, IsTrue, IsErr, IfOk, OnErr, Contains};
 ghost use Rattle.std.specs.Io.{ReadsAtMost, WritesAtMost};
 ghost use Rattle.std.specs.Io.KnownBytes.{ReadConsumes, WriteAppends};
 ghost use Rattle.outside_io.specs.Causes.{HasCause};
@@ -83,16 +83,17 @@ impl MemSource {
 }
 
 impl Source for MemSource {
-    ghost use Rattle.outside_io.specs.Memory.{rest_of, source_fails, source_calls, source_faults, next_call};
+    ghost use Rattle.outside_io.specs.Memory.{left_in, source_fails, source_calls, source_faults};
+    ghost use Rattle.outside_io.specs.Memory.{next_call};
 
-    ghost left = { λ s. Some (rest_of s) };
+    ghost left = { left_in };
 
     ghost faults = { source_faults };
 
     fn read(&mut self, buf: &mut [u8]) -> Result<usize, ReadFailed>
         requires { 0 < length buf.old }
         ensures bound { ReadsAtMost result buf.new }
-        ensures bytes { ReadConsumes (Some (rest_of self.old)) (Some (rest_of self.new)) result buf.new }
+        ensures bytes { ReadConsumes (left_in self.old) (left_in self.new) result buf.new }
         ensures cause { HasCause (source_faults self.old) (source_faults self.new) result }
         ensures listed { IsErr result ↔ Contains (source_fails self.old) (source_calls self.new) }
         ensures calls { source_calls self.new ≡ next_call (source_calls self.old) }
@@ -159,9 +160,10 @@ impl MemSink {
 }
 
 impl Sink for MemSink {
-    ghost use Rattle.outside_io.specs.Memory.{bytes_of, sink_fails, sink_calls, sink_faults, next_call, MustGrow};
+    ghost use Rattle.outside_io.specs.Memory.{written_in, sink_fails, sink_calls, sink_faults};
+    ghost use Rattle.outside_io.specs.Memory.{next_call, MayFail};
 
-    ghost written = { λ s. Some (bytes_of s) };
+    ghost written = { written_in };
 
     ghost faults = { sink_faults };
 
@@ -169,10 +171,10 @@ impl Sink for MemSink {
         requires { 0 < length buf.now }
         ensures bound { WritesAtMost result buf.now }
         ensures some { IfOk result (λ n. 0 < n) }
-        ensures bytes { WriteAppends (Some (bytes_of self.old)) (Some (bytes_of self.new)) result buf.now }
+        ensures bytes { WriteAppends (written_in self.old) (written_in self.new) result buf.now }
         ensures cause { HasCause (sink_faults self.old) (sink_faults self.new) result }
         ensures listed { Contains (sink_fails self.old) (sink_calls self.new) → IsErr result }
-        ensures refused { OnErr result (Contains (sink_fails self.old) (sink_calls self.new) ⊎ MustGrow self.old (length buf.now)) }
+        ensures refused { OnErr result (MayFail self.old (sink_calls self.new) (length buf.now)) }
         ensures calls { sink_calls self.new ≡ next_call (sink_calls self.old) }
         ensures fails { sink_fails self.new ≡ sink_fails self.old }
     {

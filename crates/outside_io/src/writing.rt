@@ -15,7 +15,8 @@ pub struct WriteFault;
 /// Writes all bytes to the sink. After a fault, a front of them was written.
 pub fn put_all<W: Sink>(sink: &mut W, bytes: &[u8]) -> Result<(), WriteFault>
     ensures whole { OnOk result (Appends (W.written sink.old) (W.written sink.new) bytes.now) }
-    ensures prefix { OnErr result (AppendsPrefix (W.written sink.old) (W.written sink.new) bytes.now) }
+    ensures prefix { OnErr result
+        (AppendsPrefix (W.written sink.old) (W.written sink.new) bytes.now) }
     ensures cause { HasCause (W.faults sink.old) (W.faults sink.new) result }
 {
     let mut rest = bytes;

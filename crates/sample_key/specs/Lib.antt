@@ -4,3 +4,4 @@ pub mod Headers
 pub mod Sent
 pub mod Bags
 pub mod Marks
+pub mod Room

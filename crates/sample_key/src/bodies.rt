@@ -1,6 +1,7 @@
 //! What a buffer and the table have in common: a list of entries that is copied out and cleared.
-ghost use Rattle.std.specs.Prelude.{◌≡◌, ◌+◌, ◌≤◌, ◌++◌, List, [], length, vec_len, vec_capacity, IsOk, OnOk, OnErr};
+ghost use Rattle.std.specs.Prelude.{◌≡◌, ◌≤◌, ◌++◌, List, [], length, vec_capacity, IsOk, OnOk, OnErr};
 ghost use Rattle.sample_key.specs.Counted.{Counted};
+ghost use Rattle.sample_key.specs.Room.{HasRoom};
 
 use crate::entries::Entry;
 use std::alloc::AllocError;
@@ -14,7 +15,7 @@ pub trait Body {
     fn copy_to(&self, out: &mut Vec<Entry>) -> Result<(), AllocError>
         ensures ok { OnOk result (out.new.items ≡ out.old.items ++ entries self.now) }
         ensures err { OnErr result (out.new.items ≡ out.old.items) }
-        ensures room { vec_len out.old + length (entries self.now) ≤ vec_capacity out.old → IsOk result }
+        ensures room { HasRoom out.old (length (entries self.now)) → IsOk result }
         ensures capacity { vec_capacity out.old ≤ vec_capacity out.new };
 
     /// Takes all entries away.

@@ -27,9 +27,26 @@ impl Model for Note {
 
     ghost Value = { Header };
 
-    ghost view = { λ n. record { cpu = n.cpu; cell = n.cell; number = n.number; upto = n.upto; answers = n.answers; sent0 = n.sent0; sent1 = n.sent1 } };
+    ghost view = { λ n. record {
+      cpu = n.cpu;
+      cell = n.cell;
+      number = n.number;
+      upto = n.upto;
+      answers = n.answers;
+      sent0 = n.sent0;
+      sent1 = n.sent1;
+    } };
 
-    ghost invariant = { λ n. (n.cpu ≤ LAST_CPU) × (n.cell ≤ LAST_CELL) × (1 ≤ n.number) × (n.upto ≤ MOST_SAMPLES) };
+    ghost invariant = { λ n. (n.cpu ≤ LAST_CPU) × (n.cell ≤ LAST_CELL)
+        × (1 ≤ n.number) × (n.upto ≤ MOST_SAMPLES) };
 
-    ghost inverse = { λ h. record { cpu = h.cpu; cell = h.cell; number = h.number; upto = h.upto; answers = h.answers; sent0 = h.sent0; sent1 = h.sent1 } };
+    ghost inverse = { λ h. record {
+      cpu = h.cpu;
+      cell = h.cell;
+      number = h.number;
+      upto = h.upto;
+      answers = h.answers;
+      sent0 = h.sent0;
+      sent1 = h.sent1;
+    } };
 }
