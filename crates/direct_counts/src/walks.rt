@@ -92,8 +92,7 @@ fn count<K: Eq + Hash + Copy + Drop>(counts: &mut HashMap<K, u64>, key: K) -> Re
     requires { unwrap_or (get K.eq counts.old key) 0 + 1 < 2 ^ 64 }
     ensures { OnOk result (CountsOne K.eq counts.old counts.new key) }
 {
-    let before = counts.get(&key).copied().unwrap_or(0);
-    counts.insert(key, before + 1)?;
+    *counts.entry(key)?.or_insert(0) += 1;
     Ok(())
 }
 
