@@ -31,7 +31,8 @@ impl Model for LineReader {
 
     ghost view = { λ r. slice_range r.bytes.items r.at r.end };
 
-    ghost invariant = { λ r. (r.at ≤ r.end) × (r.end ≤ length r.bytes.items) × (0 < length r.bytes.items) };
+    ghost invariant = { λ r. (r.at ≤ r.end)
+        × (r.end ≤ length r.bytes.items) × (0 < length r.bytes.items) };
 }
 
 impl LineReader {
