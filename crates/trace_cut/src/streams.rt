@@ -24,7 +24,8 @@ pub struct Streams {
 pub fn cut(alloc: Global, trace: &Trace) -> Result<Streams, AllocError>
     ensures lanes { IfOk result (λ streams.
         lanes_in streams.lanes.items ≡ streams_in (recording_of trace.now)) }
-    ensures records { IfOk result (λ streams. streams.records.items ≡ records_in (recording_of trace.now)) }
+    ensures records { IfOk result (λ streams.
+        streams.records.items ≡ records_in (recording_of trace.now)) }
 {
     processors_are_there(trace);
     let mut lanes = empty_lanes(alloc, trace.cpus)?;
