@@ -59,7 +59,7 @@ pub enum Taken {
 impl Body {
     ghost use Rattle.text_num.specs.Names.{is_name};
     ghost use Rattle.trace_model.specs.Recording.{said_in};
-    ghost use Rattle.trace_model.specs.Said.{every, tested, is_titled};
+    ghost use Rattle.trace_model.specs.Said.{KernelMapped, every, tested, is_titled};
     ghost use Rattle.trace_model.specs.Traces.{recording_of};
     ghost use Rattle.trace_text.specs.Forms.{body_shown, notice_values, sample_values, values_shown};
     ghost use Rattle.trace_text.specs.Judging.{size_shown};
@@ -275,18 +275,31 @@ impl Body {
                 base,
                 length,
                 image,
-            } => {
-                let image = self.image(alloc, image)?;
-                Ok(Record::Kernel {
-                    base,
-                    length,
-                    image,
-                })
-            }
+            } => self.kernel_record(alloc, base, length, image),
             NoticeLine::Drain => Ok(Record::Drain),
             NoticeLine::Merge => Ok(Record::Merge),
             NoticeLine::Epoch => Ok(Record::Epoch),
         }
+    }
+
+    // The record of a mapping of the kernel.
+    fn kernel_record(
+        &mut self,
+        alloc: Global,
+        base: u64,
+        length: u64,
+        image: &[u8],
+    ) -> Result<Record, AllocError>
+        requires index { IsIndexed self.old }
+        requires name { is_name image.now ≡ true }
+        ensures { IfOk result (Names self.old self.new (KernelMapped base length image.now)) }
+    {
+        let image = self.image(alloc, image)?;
+        Ok(Record::Kernel {
+            base,
+            length,
+            image,
+        })
     }
 
     // The index of an image, which is named first here where it is new.
