@@ -1,5 +1,6 @@
 //! One bucket of the table: its ways in use, the search for a key among them, and what adding a sample does to them.
 ghost use Rattle.std.specs.Prelude.{◌≡◌, ◌<◌, ◌≤◌, [], length, is_some, IfSome};
+ghost use Rattle.sample_key.specs.Bags.{same_key};
 ghost use Rattle.driver_model.specs.Table.{way_of, row_add, given_out};
 
 use crate::limits::WAYS;
@@ -112,16 +113,35 @@ impl Bucket {
     }
 }
 
-// Where the entries have the key.
+// Where the entries have the key. They are never more than the ways, which the minimum tells the compiler: so it writes the
+// search out, way by way.
 #[inline(always)]
 fn find_in(entries: &[Entry], key: &Key) -> Option<usize>
+    requires few { length entries.now ≤ WAYS }
+    ensures found { result ≡ way_of entries.now key.now }
+    ensures within { IfSome result (λ i. i < length entries.now) }
+{
+    find_among(&entries[..entries.len().min(WAYS)], key)
+}
+
+// The search of `find_in`.
+#[inline(always)]
+fn find_among(entries: &[Entry], key: &Key) -> Option<usize>
     ensures found { result ≡ way_of entries.now key.now }
     ensures within { IfSome result (λ i. i < length entries.now) }
 {
     for (i, entry) in entries.iter().enumerate() {
-        if entry.key.same(key) {
+        if is_same(key, &entry.key) {
             return Some(i);
         }
     }
     None
+}
+
+// Whether both are one key. The keys of a bucket mostly differ in the program counter, so that is looked at first.
+#[inline(always)]
+fn is_same(a: &Key, b: &Key) -> bool
+    ensures { result ≡ same_key a.now b.now }
+{
+    a.pc == b.pc && a.same(b)
 }
