@@ -11,6 +11,3 @@ mod tables;
 pub use driver_model::Added;
 pub use limits::{MOST_BUCKETS, WAYS};
 pub use tables::AssocTable;
-
-#[cfg(test)]
-mod tests;

@@ -1,6 +1,6 @@
 //! The samples of the benchmark: drawn as those of a machine with eight processes, one kernel and one shared library.
 ghost use Rattle.std.specs.Prelude.{◌≡◌, ◌%◌, ◌^◌, ◌<◌, length, IfOk};
-ghost use Rattle.driver_tests.specs.Plays.{HaveMark};
+ghost use Rattle.driver_play.specs.Plays.{HaveMark};
 
 use sample_key::{Event, Key, Marked};
 use std::alloc::{AllocError, Global};

@@ -10,7 +10,7 @@ mod generated;
 use anyhow::{Context, Result};
 use assoc_table::MOST_BUCKETS;
 use cpu_lane::Plan;
-use driver_tests::Play;
+use driver_play::Play;
 use overflow_pair::MOST_BUFFER;
 use sample_key::Pace;
 use std::alloc::Global;

@@ -1,14 +1,9 @@
-//! One thread plays both halves of a driver: a lane, and the daemon on the other end of its side. What happens when is
-//! chosen by the caller, so that a test can say it turn by turn, and a benchmark can time it.
-//! The entry is `Play`; it keeps what a turn of its lane asks, so that any order of its calls is allowed.
-//! The acceptance tables of the driver stand in the tests of this crate.
+//! The acceptance tables of the driver, its table and its buffers, and a new plain side by its calls. It holds tests alone.
 #![tactic(auto)]
-
-mod plays;
-
-pub use plays::Play;
 
 #[cfg(test)]
 mod side_tests;
+#[cfg(test)]
+mod table_tests;
 #[cfg(test)]
 mod tests;

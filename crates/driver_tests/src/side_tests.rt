@@ -6,10 +6,18 @@ use overflow_pair::{Buffer, Pair};
 use std::test::Fail;
 
 // What a look found, as a number: 0 where the value is back.
-fn word_of<T: Drop>(look: Look<T>) -> u64 {
+fn looked<T: Drop>(look: Look<T>) -> u64 {
     match look {
         Look::Back(_) => 0,
         Look::Out(word) => word,
+    }
+}
+
+// What a poll found, as a number: the word, or 1 where the value was taken.
+fn polled<T: Drop>(poll: PollOf<T>) -> u64 {
+    match poll {
+        PollOf::Home(word) => word,
+        PollOf::Parcel(_) => 1,
     }
 }
 
@@ -17,20 +25,16 @@ fn word_of<T: Drop>(look: Look<T>) -> u64 {
 fn a_new_side_has_all_values_at_home(rt: HostRuntime) -> Result<(), Fail> {
     let samples = Vec::new(rt.alloc());
     let mut side = PlainSide::new(rt.alloc(), 15, &samples, 65_537, 1, 8_192)?;
-    assert_eq!(rt; side.hear(), 0);
+    let before = side.hear();
     side.ring(4);
-    assert_eq!(rt; side.hear(), 4);
-    match side.poll_buffer(1) {
-        PollOf::Home(word) => assert_eq!(rt; word, 0),
-        PollOf::Parcel(_) => assert_eq!(rt; 0, 1, "nothing was handed"),
-    }
-    match side.poll_table() {
-        PollOf::Home(word) => assert_eq!(rt; word, 0),
-        PollOf::Parcel(_) => assert_eq!(rt; 0, 1, "nothing was handed"),
-    }
-    assert_eq!(rt; word_of(side.look_buffer(0)), 0);
-    assert_eq!(rt; word_of(side.look_buffer(1)), 0);
-    assert_eq!(rt; word_of(side.look_table()), 0);
+    let heard = [before, side.hear()];
+    let polled = [polled(side.poll_buffer(1)), polled(side.poll_table())];
+    let looked = [
+        looked(side.look_buffer(0)),
+        looked(side.look_buffer(1)),
+        looked(side.look_table()),
+    ];
+    assert_eq!(rt; (heard, polled, looked), ([0, 4], [0, 0], [0, 0, 0]));
     Ok(())
 }
 

@@ -10,6 +10,3 @@ mod pairs;
 pub use buffers::Buffer;
 pub use limits::MOST_BUFFER;
 pub use pairs::Pair;
-
-#[cfg(test)]
-mod tests;

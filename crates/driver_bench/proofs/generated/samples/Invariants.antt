@@ -1,5 +1,5 @@
 use Rattle.std.proofs.Common.{◌≡◌, length}
-use Rattle.driver_tests.specs.Plays.{HaveMark}
+use Rattle.driver_play.specs.Plays.{HaveMark}
 use Rattle.driver_bench.proofs.generated.samples.Given as goal
 
 abbrev pub invariant-loop : goal.invariant-loop

@@ -1,6 +1,6 @@
 use Rattle.std.proofs.Common.{◌/◌, arith}
-use Rattle.driver_tests.proofs.Marking.{have_rising, have_most}
-use Rattle.driver_tests.proofs.plays.Play.new.Goals as goal
+use Rattle.driver_play.proofs.Marking.{have_rising, have_most}
+use Rattle.driver_play.proofs.plays.Play.new.Goals as goal
 
 pub new-requires-2 : goal.new-requires-2
 new-requires-2 c =

@@ -1,6 +1,6 @@
 use Rattle.lane_side.specs.Calls.{table_sent}
-use Rattle.driver_tests.proofs.Playing.{plays_home_table, plays_flushed}
-use Rattle.driver_tests.proofs.plays.Play.copy_table.Goals as goal
+use Rattle.driver_play.proofs.Playing.{plays_home_table, plays_flushed}
+use Rattle.driver_play.proofs.plays.Play.copy_table.Goals as goal
 
 pub invariant_of-self : goal.invariant_of-self
 invariant_of-self c =

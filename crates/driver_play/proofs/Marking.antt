@@ -2,7 +2,7 @@
 use Rattle.std.proofs.Common.{◌≡◌, ℕ, ◌≤◌, List, [], ◌∷◌, ◌++◌, arith}
 use Rattle.sample_key.specs.Marks.{IsRising, RisesFrom, MarksUpTo}
 use Rattle.sample_key.specs.declared.keys.Marked.{Marked}
-use Rattle.driver_tests.specs.Plays.{HaveMark}
+use Rattle.driver_play.specs.Plays.{HaveMark}
 
 -- one more
 pub have_push : (m : ℕ) (ss : List Marked) (s : Marked) → HaveMark m ss → s.mark ≡ m → HaveMark m (ss ++ s ∷ [])

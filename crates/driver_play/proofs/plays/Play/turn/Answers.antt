@@ -1,4 +1,4 @@
-use Rattle.driver_tests.proofs.plays.Play.turn.Goals as goal
+use Rattle.driver_play.proofs.plays.Play.turn.Goals as goal
 
 pub turn-requires-clause-room : goal.turn-requires-clause-room
 turn-requires-clause-room c =

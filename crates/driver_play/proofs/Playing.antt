@@ -13,7 +13,7 @@ use Rattle.lane_side.specs.Plain.{Plain}
 use Rattle.lane_side.proofs.Bells.{last-push}
 use Rattle.cpu_lane.specs.Seen.{Seen}
 use Rattle.cpu_lane.specs.Runs.{Runs}
-use Rattle.driver_tests.specs.Plays.{Plays}
+use Rattle.driver_play.specs.Plays.{Plays}
 
 -- what the daemon's calls leave of the driver's half
 pub record Leaves (v w : Side) : Type 0 where

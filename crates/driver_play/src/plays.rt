@@ -1,7 +1,7 @@
 //! A lane and its side, of which one thread plays both halves. Between two calls the daemon holds nothing.
 ghost use Rattle.std.specs.Prelude.{◌≡◌, ◌*◌, ◌/◌, ◌%◌, ◌^◌, ◌≤◌, length, IfOk};
 ghost use Rattle.driver_model.specs.Handover.{rung_of};
-ghost use Rattle.driver_tests.specs.Plays.{HaveMark};
+ghost use Rattle.driver_play.specs.Plays.{HaveMark};
 
 use assoc_table::MOST_BUCKETS;
 use cpu_lane::{Lane, Plan, Stats, Turn, running_has_room};
@@ -21,7 +21,7 @@ pub struct Play {
 }
 
 impl Model for Play {
-    ghost use Rattle.driver_tests.specs.Plays.{Both, Plays};
+    ghost use Rattle.driver_play.specs.Plays.{Both, Plays};
 
     ghost Value = { Both };
 

@@ -1,9 +1,9 @@
 use Rattle.std.proofs.Common.{◌∙◌, ap, arith}
 use Rattle.driver_model.specs.Handover.{FarSide, rung_of}
 use Rattle.lane_side.proofs.Bells.{last-push}
-use Rattle.driver_tests.specs.Plays.{Both}
-use Rattle.driver_tests.proofs.Playing.{plays_rung}
-use Rattle.driver_tests.proofs.plays.Play.ring.Goals as goal
+use Rattle.driver_play.specs.Plays.{Both}
+use Rattle.driver_play.proofs.Playing.{plays_rung}
+use Rattle.driver_play.proofs.plays.Play.ring.Goals as goal
 
 pub ring-requires-clause-bound : goal.ring-requires-clause-bound
 ring-requires-clause-bound c =

@@ -1,7 +1,7 @@
 use Rattle.driver_model.specs.Sides.{slot_of}
 use Rattle.lane_side.specs.Calls.{buffer_sent}
-use Rattle.driver_tests.proofs.Playing.{plays_home, plays_drained}
-use Rattle.driver_tests.proofs.plays.Play.drain.Goals as goal
+use Rattle.driver_play.proofs.Playing.{plays_home, plays_drained}
+use Rattle.driver_play.proofs.plays.Play.copy_buffer.Goals as goal
 
 pub invariant_of-self : goal.invariant_of-self
 invariant_of-self c =
