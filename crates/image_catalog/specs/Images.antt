@@ -1,7 +1,7 @@
 -- The names of a database's images, in the order in which they were added, and the index by which one is found.
-use Rattle.std.specs.Prelude.{◌≡◌, ℕ, ◌≤◌, ◌<◌, Bool, is_some, if◌then◌else◌, List, [], ◌∷◌, ◌++◌, length, position, find, slice_index_or}
+use Rattle.std.specs.Prelude.{◌≡◌, ℕ, ◌≤◌, ◌<◌, Bool, true, false, is_some, if◌then◌else◌, List, [], ◌∷◌, ◌++◌, length, position, find, slice_index_or}
 use Rattle.std.specs.declared.option.Option.{Option}
-use Rattle.std.specs.List.{IsDistinct, AllByRecursion}
+use Rattle.std.specs.List.{IsDistinct, AllByRecursion, AllWithin}
 use Rattle.std.specs.List.Sorted.{IsStrictlySortedBy}
 use Rattle.std.specs.Ordering.{nat_cmp, is_lt}
 use Rattle.std.specs.Cmp.Lexicographic.{slice_cmp}
@@ -28,6 +28,15 @@ text_at names number = slice_index_or names number []
 -- whether the name of a number comes before this one in byte order
 abbrev pub comes_before : List (List ℕ) → ℕ → List ℕ → Bool
 comes_before names number name = is_lt (slice_cmp nat_cmp (text_at names number) name)
+
+-- the names of the first `at` of these numbers come before this one
+abbrev pub FrontIsBefore : List (List ℕ) → List ℕ → ℕ → List ℕ → Type 0
+FrontIsBefore names order at name = AllWithin (λ k. comes_before names k name ≡ true) order 0 at
+
+-- and those of the others do not
+abbrev pub RestIsNotBefore : List (List ℕ) → List ℕ → ℕ → List ℕ → Type 0
+RestIsNotBefore names order at name =
+    AllWithin (λ k. comes_before names k name ≡ false) order at (length order)
 
 -- numbers in the byte order of their names
 abbrev pub Rises : List (List ℕ) → List ℕ → Type 0

@@ -1,8 +1,7 @@
 //! The index of a catalog: where a name stands among the numbers, which are in the byte order of their names.
-ghost use Rattle.std.specs.Prelude.{◌≡◌, ◌≤◌, true, false, length, find};
-ghost use Rattle.std.specs.List.{AllWithin};
+ghost use Rattle.std.specs.Prelude.{◌≡◌, ◌≤◌, length, find};
 ghost use Rattle.std.specs.Str.{bytes_eq};
-ghost use Rattle.image_catalog.specs.Images.{text_at, comes_before, Rises};
+ghost use Rattle.image_catalog.specs.Images.{text_at, comes_before, FrontIsBefore, RestIsNotBefore, Rises};
 
 use text_num::Name;
 
@@ -10,8 +9,8 @@ use text_num::Name;
 pub fn count_before(names: &[Name], order: &[u32], name: &[u8]) -> usize
     requires rising { Rises names.now order.now }
     ensures within { result ≤ length order.now }
-    ensures before { AllWithin (λ k. comes_before names.now k name.now ≡ true) order.now 0 result }
-    ensures behind { AllWithin (λ k. comes_before names.now k name.now ≡ false) order.now result (length order.now) }
+    ensures before { FrontIsBefore names.now order.now result name.now }
+    ensures behind { RestIsNotBefore names.now order.now result name.now }
 {
     order.partition_point(|number| comes_before(names, *number, name))
 }
@@ -20,8 +19,8 @@ pub fn count_before(names: &[Name], order: &[u32], name: &[u8]) -> usize
 pub fn number_at(names: &[Name], order: &[u32], at: usize, name: &[u8]) -> Option<u32>
     requires rising { Rises names.now order.now }
     requires within { at ≤ length order.now }
-    requires before { AllWithin (λ k. comes_before names.now k name.now ≡ true) order.now 0 at }
-    requires behind { AllWithin (λ k. comes_before names.now k name.now ≡ false) order.now at (length order.now) }
+    requires before { FrontIsBefore names.now order.now at name.now }
+    requires behind { RestIsNotBefore names.now order.now at name.now }
     ensures { result ≡ find (λ k. bytes_eq (text_at names.now k) name.now) order.now }
 {
     if at >= order.len() {

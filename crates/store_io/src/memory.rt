@@ -120,7 +120,8 @@ impl Store for MemStore {
 
     fn write(&mut self, alloc: Global, name: &Name, bytes: &[u8]) -> Result<(), StoreError>
         ensures files { Writes name.now bytes.now (told_of self.old) (told_of self.new) result }
-        ensures crash { LeavesWritten moment_of left_of name.now bytes.now self.old self.new result }
+        ensures crash { LeavesWritten moment_of left_of name.now bytes.now
+            self.old self.new result }
         ensures time { PassesChange moment_of left_of (Torn name.now) self.old self.new }
         ensures torn { Tears moment_of left_of (Torn name.now) self.old self.new result }
         ensures cause { HasStoreCause (faults_of self.old) (faults_of self.new) result }

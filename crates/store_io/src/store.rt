@@ -55,7 +55,8 @@ pub trait Store {
     /// Puts these bytes under a name, in place of what stood there.
     fn write(&mut self, alloc: Global, name: &Name, bytes: &[u8]) -> Result<(), StoreError>
         ensures files { Writes name.now bytes.now (files self.old) (files self.new) result }
-        ensures crash { LeavesWritten moment left_since name.now bytes.now self.old self.new result }
+        ensures crash { LeavesWritten moment left_since name.now bytes.now
+            self.old self.new result }
         ensures time { PassesChange moment left_since (Torn name.now) self.old self.new }
         ensures torn { Tears moment left_since (Torn name.now) self.old self.new result }
         ensures cause { HasStoreCause (faults self.old) (faults self.new) result }
