@@ -14,8 +14,8 @@ use Rattle.store_io.specs.declared.fails.Left.TheVariants.{Absent, AsBefore, Byt
 use Rattle.store_io.specs.Files.{Files, no_files, with_file, contents}
 use Rattle.store_io.specs.Outcomes.{Torn, MaybeRemoved, Holds, AfterSome, Makes, Leaves, Writes, Removes}
 use Rattle.store_io.specs.Crashes.{Elapses, MayTear}
-use Rattle.store_io.specs.Changes.{after_steps, after_outcome, LeftAfter, LeftDuring, left_after, Adds, unremoved_bytes, takes_away}
-use Rattle.store_io.proofs.History.{added_files, added_now, added_now_all, added_time, added_tears, keeps_file}
+use Rattle.store_io.specs.Changes.{after_steps, after_outcome, LeftAfter, LeftDuring, left_after, Adds, IsHeldAfter, MayBeTornAfter, unremoved_bytes, takes_away}
+use Rattle.store_io.proofs.History.{during_after, added_files, added_now, added_now_all, added_time, added_tears, keeps_file, wider}
 
 -- ---- after Ok
 
@@ -57,14 +57,39 @@ failed_crash each = record { ok = tt; failed = λ e. each; memory = λ e c h. cc
 failed_torn : {less : Files → Files → Type 0} {before now : ℕ} {past since : ℕ → Files → Type 0} → ((t : ℕ) (c : Files) → t ≤ before → AfterSome (past before) less c → since t c) → ((c : Files) → AfterSome (past before) less c → since now c) → MayTear {T = Unit {0}} less before now past since (Err Failed)
 failed_torn during now = record { during = λ e. during; failed = λ e. now }
 
-pub unwritten_files : {old new : List Step} {name : List ℕ} {left : Option (Vec ℕ)} (bytes : List ℕ) → Adds old new name (HalfWritten left) → Writes {T = Unit {0}} name bytes (Some (after_steps old no_files)) (Some (after_steps new no_files)) (Err Failed)
-unwritten_files {left = left} bytes more = failed_files (option_map contents left, added_files more)
+-- whatever a change leaves, it leaves at most its name torn
+all_torn : (o : Outcome) (name : List ℕ) (old new : Files) → LeftAfter o name old new → Torn name old new
+all_torn (Written bytes) name old new made = (Some (contents bytes), made)
+all_torn (HalfWritten left) name old new made = made
+all_torn Removed name old new made = (None, made)
+all_torn (HalfRemoved gone) name old new (inl absent) = (None, absent)
+all_torn (HalfRemoved gone) name old new (inr same) = (old name, same ∙ sym (keeps_file name old))
 
-pub unwritten_crash : {old new : List Step} {name : List ℕ} {left : Option (Vec ℕ)} (bytes : List ℕ) → Adds old new name (HalfWritten left) → Leaves {T = Unit {0}} (Holds name (Some bytes)) (Torn name) (left_after old (length old)) (left_after new (length new)) (Err Failed)
-unwritten_crash bytes more = failed_crash (added_now more)
+torn_during : (o : Outcome) (name : List ℕ) (old new : Files) → LeftDuring o name old new → Torn name old new
+torn_during (Written bytes) name old new made = made
+torn_during (HalfWritten left) name old new made = made
+torn_during Removed name old new (inl absent) = (None, absent)
+torn_during Removed name old new (inr same) = (old name, same ∙ sym (keeps_file name old))
+torn_during (HalfRemoved gone) name old new (inl absent) = (None, absent)
+torn_during (HalfRemoved gone) name old new (inr same) = (old name, same ∙ sym (keeps_file name old))
 
-pub unwritten_torn : {old new : List Step} {name : List ℕ} {left : Option (Vec ℕ)} → Adds old new name (HalfWritten left) → MayTear {T = Unit {0}} (Torn name) (length old) (length new) (left_after old) (left_after new) (Err Failed)
-unwritten_torn more = failed_torn (added_tears more) (added_now_all more)
+pub unwritten_is : {old new : List Step} {name : List ℕ} {o : Outcome} (left : Option (List ℕ)) → IsHeldAfter left o → Adds old new name o → after_steps new no_files ≡ with_file name left (after_steps old no_files)
+unwritten_is {old} {name = name} left held more = added_files more ∙ held name (after_steps old no_files)
+
+pub unwritten_files : {old new : List Step} {name : List ℕ} {o : Outcome} (bytes : List ℕ) (left : Option (List ℕ)) → IsHeldAfter left o → Adds old new name o → Writes {T = Unit {0}} name bytes (Some (after_steps old no_files)) (Some (after_steps new no_files)) (Err Failed)
+unwritten_files bytes left held more = failed_files (left, unwritten_is left held more)
+
+pub unwritten_crash : {old new : List Step} {name : List ℕ} {o : Outcome} (bytes : List ℕ) → Adds old new name o → Leaves {T = Unit {0}} (Holds name (Some bytes)) (Torn name) (left_after old (length old)) (left_after new (length new)) (Err Failed)
+unwritten_crash {name = name} {o = o} bytes more = failed_crash (λ c h. let (d, was, made) = added_now more c h in (d, was, all_torn o name d c made))
+
+pub unwritten_time : {old new : List Step} {name : List ℕ} {o : Outcome} → Adds old new name o → Elapses (length old) (length new) (left_after old) (left_after new) (AfterSome (left_after old (length old)) (Torn name))
+unwritten_time {name = name} {o = o} more = wider _ _ _ _ _ _ (λ c (d, was, torn). (d, was, torn_during o name d c torn)) (added_time more)
+
+pub unwritten_torn : {old new : List Step} {name : List ℕ} {o : Outcome} → MayBeTornAfter o → Adds old new name o → MayTear {T = Unit {0}} (Torn name) (length old) (length new) (left_after old) (left_after new) (Err Failed)
+unwritten_torn {name = name} {o = o} torn more =
+    failed_torn
+    (λ t c below (d, was, may). added_tears more t c below (d, was, during_after o name d c (torn name d c may)))
+    (λ c (d, was, may). added_now_all more c (d, was, torn name d c may))
 
 -- whether it was taken or kept, a removal that failed left what it may leave
 half_removed : (gone : Bool) (name : List ℕ) (files : Files) → MaybeRemoved name files (after_outcome (HalfRemoved gone) name files)

@@ -19,7 +19,7 @@ after_steps-append [] ys f = refl
 after_steps-append (x ∷ xs) ys f = after_steps-append xs ys (after_step x f)
 
 -- a change that was made, or failed, is one in progress
-during_after : (o : Outcome) (name : List ℕ) (d c : Files) → LeftAfter o name d c → LeftDuring o name d c
+pub during_after : (o : Outcome) (name : List ℕ) (d c : Files) → LeftAfter o name d c → LeftDuring o name d c
 during_after (Written bytes) name d c made = (Some (contents bytes), made)
 during_after (HalfWritten left) name d c made = made
 during_after Removed name d c made = inl made

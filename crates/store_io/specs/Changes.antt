@@ -53,6 +53,16 @@ LeftAfter (HalfWritten left) name old new = Torn name old new
 LeftAfter Removed name old new = new ≡ with_file name None old
 LeftAfter (HalfRemoved gone) name old new = MaybeRemoved name old new
 
+-- whether a change that came out so leaves these bytes under its name
+abbrev pub IsHeldAfter : Option (List ℕ) → Outcome → Type 0
+IsHeldAfter left outcome =
+    (name : List ℕ) (files : Files) → after_outcome outcome name files ≡ with_file name left files
+
+-- whether its name may be torn by a crash after it
+abbrev pub MayBeTornAfter : Outcome → Type 0
+MayBeTornAfter outcome =
+    (name : List ℕ) (old new : Files) → Torn name old new → LeftAfter outcome name old new
+
 -- what a crash during a change leaves
 abbrev pub LeftDuring : Outcome → List ℕ → Files → Files → Type 0
 LeftDuring (Written bytes) name old new = Torn name old new

@@ -1,12 +1,12 @@
 //! What the changes of a store in memory say: what stands under a name, and which names are there.
-ghost use Rattle.std.specs.Prelude.{◌≡◌, ◌≢◌, ◌&&◌, ◌||◌, not, ℕ, List, [], true, map, filter, is_some, IsSome, IfOk, OnOk, OnErr, None, Some};
+ghost use Rattle.std.specs.Prelude.{◌≡◌, ◌≢◌, ◌&&◌, ◌||◌, not, ℕ, List, [], true, map, filter, is_some, false, IsSome, IfOk, OnOk, OnErr, None, Some};
 ghost use Rattle.std.specs.declared.option.Option.{Option};
 ghost use Rattle.std.specs.Option.{option_map, option_copied};
 ghost use Rattle.std.specs.Str.{bytes_eq};
 ghost use Rattle.text_num.specs.Names.{is_name};
 ghost use Rattle.store_io.specs.Files.{Files, contents, no_files};
 ghost use Rattle.store_io.specs.Listing.{is_listed, Lists, text_list, AreNames};
-ghost use Rattle.store_io.specs.Changes.{after_step, after_steps, listed, left_bytes, decides, changes_files, bytes_left, takes_away, is_whole, are_whole, Adds};
+ghost use Rattle.store_io.specs.Changes.{after_step, after_steps, listed, left_bytes, decides, changes_files, bytes_left, takes_away, is_whole, are_whole, Adds, IsHeldAfter, MayBeTornAfter};
 
 use crate::fails::{Left, StoreFail};
 use crate::steps::{Outcome, Step};
@@ -97,6 +97,15 @@ pub fn left_by_write(
         Left::AsBefore => copy_of(alloc, before),
         Left::Bytes(bytes) => Ok(Some(Vec::from_slice(alloc, bytes)?)),
     }
+}
+
+/// How a failed write came out that left these bytes: after a crash the name may be torn all the same.
+pub fn half_written(bytes: Option<Vec<u8>>) -> Outcome
+    ensures held { IsHeldAfter (option_map contents bytes) result }
+    ensures torn { MayBeTornAfter result }
+    ensures failed { is_whole result ≡ false }
+{
+    Outcome::HalfWritten(bytes)
 }
 
 /// Whether a failed removal took the name away.

@@ -2,7 +2,9 @@
 ghost use Rattle.std.specs.Prelude.{◌≡◌, ℕ, [], true};
 ghost use Rattle.store_io.specs.Changes.{are_whole};
 
-use crate::changes::{add, copy_of, find, left_by_write, listed, present_names, takes_away};
+use crate::changes::{
+    add, copy_of, find, half_written, left_by_write, listed, present_names, takes_away,
+};
 use crate::errors::StoreError;
 use crate::fails::{Left, StoreFail};
 use crate::order::names_among;
@@ -140,7 +142,7 @@ impl Store for MemStore {
             Some(left) => {
                 let before = find(&self.changes, name.bytes());
                 let bytes = left_by_write(alloc, left, before)?;
-                add(alloc, &mut self.changes, name, Outcome::HalfWritten(bytes))?;
+                add(alloc, &mut self.changes, name, half_written(bytes))?;
                 self.faults = self.faults.saturating_add(1);
                 Err(StoreError::Failed)
             }
