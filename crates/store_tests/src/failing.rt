@@ -1,8 +1,9 @@
 //! A runtime of which one kind of call on files fails.
 
 use std::alloc::{Allocator, Global};
-use std::fs::{Metadata, OpenOptions};
+use std::fs::{Metadata, OpenFile, OpenOptions};
 use std::io;
+use std::io::{Read, Seek, SeekFrom, Write};
 use std::rt::Files;
 
 /// The call that fails.
@@ -10,8 +11,12 @@ use std::rt::Files;
 pub enum FileCall {
     /// The opening of the folder, which comes before it is brought to the disk.
     OpenFolder,
+    /// The bringing of the folder to the disk.
+    SyncFolder,
     /// The opening of the file that a write fills.
     OpenAside,
+    /// The bringing of that file to the disk.
+    SyncAside,
     /// The renaming.
     Rename,
     /// The removal.
@@ -24,6 +29,56 @@ pub struct FailingFiles<'a> {
     pub rt: &'a HostRuntime,
     pub call: FileCall,
     pub kind: io::ErrorKind,
+}
+
+/// A file of the host, which is not brought to the disk where it has an error for this.
+#[derive(Drop)]
+pub struct FailingFile {
+    file: <HostRuntime as Files>::File,
+    sync: Option<io::ErrorKind>,
+}
+
+impl Read for FailingFile {
+    fn read(&mut self, buf: &mut [u8]) -> io::Result<usize> {
+        self.file.read(buf)
+    }
+}
+
+impl Write for FailingFile {
+    fn write(&mut self, buf: &[u8]) -> io::Result<usize> {
+        self.file.write(buf)
+    }
+
+    fn flush(&mut self) -> io::Result<()> {
+        self.file.flush()
+    }
+}
+
+impl Seek for FailingFile {
+    fn seek(&mut self, to: SeekFrom) -> io::Result<u64> {
+        self.file.seek(to)
+    }
+}
+
+impl OpenFile for FailingFile {
+    fn metadata(&self) -> io::Result<Metadata> {
+        OpenFile::metadata(&self.file)
+    }
+
+    fn set_len(&self, size: u64) -> io::Result<()> {
+        OpenFile::set_len(&self.file, size)
+    }
+
+    fn sync_all(&self) -> io::Result<()> {
+        match self.sync {
+            Some(kind) => Err(io::Error::from(kind)),
+            None => OpenFile::sync_all(&self.file),
+        }
+    }
+
+    fn sync_data(&self) -> io::Result<()> {
+        OpenFile::sync_all(self)
+    }
 }
 
 impl<'a> FailingFiles<'a> {
@@ -44,17 +99,24 @@ impl<'a> Alloc for FailingFiles<'a> {
 }
 
 impl<'a> Files for FailingFiles<'a> {
-    type File = <HostRuntime as Files>::File;
+    type File = FailingFile;
 
     type Dir = <HostRuntime as Files>::Dir;
 
-    fn open_file(&self, how: &OpenOptions, path: &str) -> io::Result<<HostRuntime as Files>::File> {
-        if path.ends_with("new file") {
-            self.refuse(FileCall::OpenAside)?;
+    fn open_file(&self, how: &OpenOptions, path: &str) -> io::Result<FailingFile> {
+        let (open, sync) = if path.ends_with("new file") {
+            (FileCall::OpenAside, FileCall::SyncAside)
         } else {
-            self.refuse(FileCall::OpenFolder)?;
-        }
-        self.rt.open_file(how, path)
+            (FileCall::OpenFolder, FileCall::SyncFolder)
+        };
+        self.refuse(open)?;
+        let file = self.rt.open_file(how, path)?;
+        let sync = if self.call == sync {
+            Some(self.kind)
+        } else {
+            None
+        };
+        Ok(FailingFile { file, sync })
     }
 
     fn open_dir(&self, path: &str) -> io::Result<<HostRuntime as Files>::Dir> {

@@ -1,12 +1,13 @@
 //! The store over a folder: its calls, and what it answers where the system fails before and behind a change.
 
 use crate::failing::{FailingFiles, FileCall};
-use crate::samples::{goes_through, moves, name};
+use crate::memory::{ANSWERS, CALLS};
+use crate::samples::{Call, moves, told};
 use std::alloc::Global;
 use std::io::ErrorKind;
 use std::test::Fail;
 use std::{env, fs, process};
-use store_io::{DirStore, Store, StoreError};
+use store_io::DirStore;
 
 /// The path of a folder of this process alone.
 fn path_of(rt: &HostRuntime, alloc: Global, test: &str) -> Result<String, Fail> {
@@ -22,115 +23,70 @@ fn an_empty_folder_goes_through(rt: HostRuntime) -> Result<(), Fail> {
     fs::create_dir(&rt, path.as_str())?;
     let mut store = DirStore::at(&rt, path.clone()?);
     moves(&store);
-    goes_through(&rt, alloc, &mut store)?;
-    store.remove(alloc, &name(alloc, "head.9")?)?;
-    fs::remove_dir(&rt, path.as_str())?;
-    let gone = store.names(alloc);
-    assert_eq!(rt; gone.is_err(), true);
+    let answers = told(alloc, &mut store, &CALLS)?;
+    assert_eq!(rt; answers.as_slice(), ANSWERS);
+    fs::remove_dir_all(&rt, path.as_str())?;
+    let gone = told(alloc, &mut store, &[Call::Names])?;
+    assert_eq!(rt; gone.as_slice(), b"failed|".as_slice());
     Ok(())
 }
 
-/// What a write, or else a removal, answers where this call fails, and what stands there afterwards.
+const WRITE: Call<'static> = Call::Write("p", "new");
+
+const REMOVE: Call<'static> = Call::Remove("p");
+
+// A change of a name that holds `old`, the call of the system that fails in it for want of memory and otherwise, what is
+// answered to each, and what stands there afterwards. Behind a change want of memory is a fault as any other.
+const FAILURES: [(Call<'static>, FileCall, &[u8], &[u8]); 8] = [
+    (WRITE, FileCall::OpenAside, b"memory|old|", b"failed|old|"),
+    (WRITE, FileCall::SyncAside, b"memory|old|", b"failed|old|"),
+    (WRITE, FileCall::Rename, b"memory|old|", b"failed|old|"),
+    (WRITE, FileCall::OpenFolder, b"failed|new|", b"failed|new|"),
+    (WRITE, FileCall::SyncFolder, b"failed|new|", b"failed|new|"),
+    (REMOVE, FileCall::Remove, b"memory|old|", b"failed|old|"),
+    (
+        REMOVE,
+        FileCall::OpenFolder,
+        b"failed|absent|",
+        b"failed|absent|",
+    ),
+    (
+        REMOVE,
+        FileCall::SyncFolder,
+        b"failed|absent|",
+        b"failed|absent|",
+    ),
+];
+
+/// What such a change answers, and what stands there afterwards.
 fn after_a_failure(
     rt: &HostRuntime,
     path: &str,
-    writes: bool,
+    change: Call<'_>,
     call: FileCall,
     kind: ErrorKind,
-) -> Result<(Option<StoreError>, Option<Vec<u8>>), Fail> {
+) -> Result<Vec<u8>, Fail> {
     let alloc = rt.alloc();
-    let p = name(alloc, "p")?;
     let mut sound = DirStore::at(rt, String::from_str(alloc, path)?);
-    sound.write(alloc, &p, b"old")?;
+    told(alloc, &mut sound, &[Call::Write("p", "old")])?;
     let failing = FailingFiles { rt, call, kind };
     let mut store = DirStore::at(&failing, String::from_str(alloc, path)?);
-    let answer = if writes {
-        store.write(alloc, &p, b"new")
-    } else {
-        store.remove(alloc, &p)
-    };
-    Ok((answer.err(), sound.read(alloc, &p)?))
+    let mut text = told(alloc, &mut store, &[change])?;
+    text.extend_from_slice(&told(alloc, &mut sound, &[Call::Read("p")])?)?;
+    Ok(text)
 }
 
 #[test]
 fn want_of_memory_is_answered_only_before_a_change(rt: HostRuntime) -> Result<(), Fail> {
-    let alloc = rt.alloc();
-    let path = path_of(&rt, alloc, "failing")?;
-    fs::create_dir(&rt, path.as_str())?;
-    let (memory, other) = (ErrorKind::OutOfMemory, ErrorKind::PermissionDenied);
-    for (writes, call, kind, answer, stands) in [
-        (
-            true,
-            FileCall::OpenAside,
-            memory,
-            StoreError::Memory,
-            Some("old"),
-        ),
-        (
-            true,
-            FileCall::OpenAside,
-            other,
-            StoreError::Failed,
-            Some("old"),
-        ),
-        (
-            true,
-            FileCall::Rename,
-            memory,
-            StoreError::Memory,
-            Some("old"),
-        ),
-        (
-            true,
-            FileCall::Rename,
-            other,
-            StoreError::Failed,
-            Some("old"),
-        ),
-        (
-            true,
-            FileCall::OpenFolder,
-            memory,
-            StoreError::Failed,
-            Some("new"),
-        ),
-        (
-            true,
-            FileCall::OpenFolder,
-            other,
-            StoreError::Failed,
-            Some("new"),
-        ),
-        (
-            false,
-            FileCall::Remove,
-            memory,
-            StoreError::Memory,
-            Some("old"),
-        ),
-        (
-            false,
-            FileCall::Remove,
-            other,
-            StoreError::Failed,
-            Some("old"),
-        ),
-        (
-            false,
-            FileCall::OpenFolder,
-            memory,
-            StoreError::Failed,
-            None,
-        ),
-        (false, FileCall::OpenFolder, other, StoreError::Failed, None),
-    ] {
-        let (answered, found) = after_a_failure(&rt, path.as_str(), writes, call, kind)?;
-        assert_eq!(rt; answered, Some(answer));
-        assert_eq!(rt; found.is_some(), stands.is_some());
-        if let (Some(bytes), Some(text)) = (found, stands) {
-            assert_eq!(rt; bytes.as_slice(), text.as_bytes());
-        }
+    let path = path_of(&rt, rt.alloc(), "failing")?;
+    let path = path.as_str();
+    fs::create_dir(&rt, path)?;
+    for (change, call, memory, other) in FAILURES {
+        let found = after_a_failure(&rt, path, change, call, ErrorKind::OutOfMemory)?;
+        assert_eq!(rt; found.as_slice(), memory);
+        let found = after_a_failure(&rt, path, change, call, ErrorKind::PermissionDenied)?;
+        assert_eq!(rt; found.as_slice(), other);
     }
-    fs::remove_dir_all(&rt, path.as_str())?;
+    fs::remove_dir_all(&rt, path)?;
     Ok(())
 }
