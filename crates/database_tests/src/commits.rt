@@ -1,17 +1,16 @@
 //! Commits over a store in memory, whose writes fail in turn, and over a folder.
 
+use crate::asks::{Ask, failing, filled, told};
 use crate::changes::{first_change, second_change};
 use epoch_store::{
-    DbError, DbFault, commit, files_stand_for_one_database, open_database, read_known,
-    read_run_part, read_unknown, readers_read_the_database, what_stands_is_within_limits,
+    DbError, DbFault, commit, files_stand_for_one_database, open_database,
+    readers_read_the_database, what_stands_is_within_limits,
 };
-use profile_file::Profile;
 use sample_key::Event;
 use std::alloc::Global;
 use std::test::Fail;
 use std::{env, fs, process};
-use store_io::{DirStore, Left, MemStore, Store, StoreFail};
-use text_num::Name;
+use store_io::{DirStore, Store};
 
 // the first part of run 1, and its last part, of one processor without losses
 const FIRST_PART: &[u8] = &[1, 1, 0, 0, 0, 0];
@@ -28,7 +27,7 @@ const ONE: &[u8] = &[1, 1, 0, 1];
 
 /// Two commits, as far as they were not made yet: a count in epoch 0, and then one in epoch 1 and an unknown one. Answers
 /// whether none failed.
-pub(crate) fn go_on<D: Store>(alloc: Global, store: &mut D) -> Result<bool, Fail> {
+fn go_on<D: Store>(alloc: Global, store: &mut D) -> Result<bool, Fail> {
     let mut db = open_database(alloc, store)?;
     if db.generation() == 0 {
         let first = first_change(alloc, &db, 1, ONE, FIRST_PART)?;
@@ -45,137 +44,108 @@ pub(crate) fn go_on<D: Store>(alloc: Global, store: &mut D) -> Result<bool, Fail
     Ok(true)
 }
 
-fn count_of(profile: &Profile) -> u64 {
-    let mut count: u64 = 0;
-    for row in profile.rows() {
-        count = count.saturating_add(row.count);
-    }
-    count
-}
+// all that the two commits bring, and what is told of it behind none, the first, and both
+const ALL: [Ask; 6] = [
+    Ask::Head,
+    Ask::Known(0, Event::Cycles),
+    Ask::Known(1, Event::Cycles),
+    Ask::Unknown(1),
+    Ask::Part(1),
+    Ask::Part(2),
+];
 
-/// The generation of what a store stands for, and its three counts; its parts can be read.
-fn counted<D: Store>(alloc: Global, store: &mut D) -> Result<(u32, [u64; 3]), Fail> {
-    let db = open_database(alloc, store)?;
-    let first = read_known(alloc, &db, store, 0, 0, Event::Cycles)?;
-    let second = read_known(alloc, &db, store, 1, 0, Event::Cycles)?;
-    let unknown = read_unknown(alloc, &db, store, 1, Event::Cycles)?;
-    for g in 0..db.generation() {
-        read_run_part(alloc, &db, store, g + 1)?;
-    }
-    let counts = [count_of(&first), count_of(&second), count_of(&unknown)];
-    Ok((db.generation(), counts))
-}
+const NONE_MADE: &str = "0 0 0 [] []\n[]\n[]\n[]\n\n\n";
+
+const ONE_MADE: &str = "1 1 1 [KnownRow { epoch: 0, image: 0, event: 0, g: 1 }] []\n\
+    [ProfileRow { offset: 0, count: 1 }]\n[]\n[]\n\
+    RunSegment { run: 1, part: 0, last: false, first_epoch: 0, drains: [], losses: [] }\n\n";
+
+const BOTH_MADE: &str = "2 1 1 [KnownRow { epoch: 0, image: 0, event: 0, g: 1 }, \
+    KnownRow { epoch: 1, image: 0, event: 0, g: 2 }] [UnknownRow { epoch: 1, event: 0, g: 2 }]\n\
+    [ProfileRow { offset: 0, count: 1 }]\n[ProfileRow { offset: 0, count: 1 }]\n\
+    [ProfileRow { offset: 0, count: 1 }]\n\
+    RunSegment { run: 1, part: 0, last: false, first_epoch: 0, drains: [], losses: [] }\n\
+    RunSegment { run: 1, part: 1, last: true, first_epoch: 0, drains: [], losses: [[]] }\n";
 
 /// The names of a store, each with a blank after it.
-fn listed<D: Store>(alloc: Global, store: &mut D) -> Result<String, Fail> {
-    let mut all = String::new(alloc);
-    for name in store.names(alloc)? {
-        for byte in name.bytes() {
-            all.push(char::from(*byte))?;
-        }
-        all.push(' ')?;
+fn listed<D: Store>(alloc: Global, store: &mut D) -> Result<Vec<u8>, Fail> {
+    let mut all = Vec::new(alloc);
+    for name in &store.names(alloc)? {
+        all.extend_from_slice(name.bytes())?;
+        all.push(b' ')?;
     }
     Ok(all)
-}
-
-pub(crate) fn faultless(alloc: Global) -> MemStore {
-    MemStore::new(alloc, Vec::new(alloc))
-}
-
-/// A store whose call of this number fails.
-fn failing(alloc: Global, call: u64, left: Left) -> Result<MemStore, Fail> {
-    let mut fails = Vec::new(alloc);
-    fails.push(StoreFail { call, left })?;
-    Ok(MemStore::new(alloc, fails))
-}
-
-/// Puts bytes under a name.
-pub(crate) fn put<D: Store>(
-    alloc: Global,
-    store: &mut D,
-    name: &str,
-    bytes: &[u8],
-) -> Result<(), Fail> {
-    let name = Name::of_bytes(alloc, name.as_bytes())?.ok_or("no name")?;
-    store.write(alloc, &name, bytes)?;
-    Ok(())
 }
 
 #[test]
 fn the_first_commit(rt: HostRuntime) -> Result<(), Fail> {
     let alloc = rt.alloc();
-    let mut store = faultless(alloc);
+    let mut store = filled(alloc, &[])?;
     let mut db = open_database(alloc, &mut store)?;
-    assert_eq!(rt; (db.generation(), db.last_epoch(), db.runs()), (0, 0, 0));
-    assert_eq!(rt; db.known_rows().len(), 0);
     let change = first_change(alloc, &db, 0, THREE, WHOLE_RUN)?;
     commit(alloc, &mut db, &mut store, &change)?;
     let names = listed(alloc, &mut store)?;
-    assert_eq!(rt; names.as_str(), "head.1 p.0.0.0.1 r.1 seal.1 ");
-    let db = open_database(alloc, &mut store)?;
-    assert_eq!(rt; (db.generation(), db.last_epoch(), db.runs()), (1, 0, 1));
-    assert_eq!(rt; (db.known_rows().len(), db.unknown_rows().len()), (1, 0));
-    let row = db.known_rows().first().ok_or("no row")?;
-    assert_eq!(rt; (row.epoch, row.image, row.event, row.g), (0, 0, 0, 1));
-    let profile = read_known(alloc, &db, &mut store, 0, 0, Event::Cycles)?;
-    let row = profile.rows().first().ok_or("no row")?;
-    assert_eq!(rt; (row.offset, row.count), (8, 3));
-    let none = read_known(alloc, &db, &mut store, 0, 0, Event::Imiss)?;
-    assert_eq!(rt; none.rows().len(), 0);
+    assert_eq!(rt;
+        names.as_slice(),
+        b"head.1 p.0.0.0.1 r.1 seal.1 ".as_slice()
+    );
+    let told = told(
+        alloc,
+        &mut store,
+        &[Ask::Head, Ask::Known(0, Event::Cycles)],
+    )?;
+    assert_eq!(rt;
+        told.as_str(),
+        "1 0 1 [KnownRow { epoch: 0, image: 0, event: 0, g: 1 }] []\n\
+        [ProfileRow { offset: 8, count: 3 }]\n"
+    );
     Ok(())
 }
 
 #[test]
 fn a_fault_stops_the_value(rt: HostRuntime) -> Result<(), Fail> {
     let alloc = rt.alloc();
-    let mut store = failing(alloc, 4, Left::Absent)?;
+    let mut store = failing(alloc, 4, "absent")?;
     let mut db = open_database(alloc, &mut store)?;
     let change = first_change(alloc, &db, 0, THREE, WHOLE_RUN)?;
     match commit(alloc, &mut db, &mut store, &change) {
-        Ok(()) => return Err("the commit did not fail".into()),
+        Ok(()) => Err("the commit did not fail".into()),
         Err(fault) => {
-            assert_eq!(rt; fault, DbError::Fault(DbFault::StoreFault));
             let again = commit(alloc, &mut db, &mut store, &change);
-            assert_eq!(rt; again, Err(DbError::Stopped(DbFault::StoreFault)));
+            let first = DbError::Fault(DbFault::StoreFault);
+            let then = DbError::Stopped(DbFault::StoreFault);
+            assert_eq!(rt; (fault, again), (first, Err(then)));
+            Ok(())
         }
     }
-    Ok(())
 }
 
-fn left_of(alloc: Global, kind: u32) -> Result<Left, Fail> {
-    match kind {
-        0 => Ok(Left::Absent),
-        1 => Ok(Left::AsBefore),
-        _ => Ok(Left::Bytes(Vec::from_slice(alloc, b"1")?)),
-    }
-}
+// A call that fails, and what is told where it leaves nothing or what stood there, and where it leaves other bytes: the
+// seal alone decides. Call 1 lists the names; the first commit writes at 2 to 5, the second at 6 to 10.
+const TORN: [(u64, &str, &str); 9] = [
+    (2, NONE_MADE, NONE_MADE),
+    (3, NONE_MADE, NONE_MADE),
+    (4, NONE_MADE, NONE_MADE),
+    (5, NONE_MADE, ONE_MADE),
+    (6, ONE_MADE, ONE_MADE),
+    (7, ONE_MADE, ONE_MADE),
+    (8, ONE_MADE, ONE_MADE),
+    (9, ONE_MADE, ONE_MADE),
+    (10, ONE_MADE, BOTH_MADE),
+];
 
-/// The counts of a generation of the two commits.
-fn counts_at(generation: u32) -> [u64; 3] {
-    match generation {
-        0 => [0, 0, 0],
-        1 => [1, 0, 0],
-        _ => [1, 1, 1],
-    }
-}
-
-// A write of the part, of the second commit's first profile, of a head or of a seal that fails: the database is that of
-// the commits that were sealed, and the same commits can be made again.
+// The database is that of the commits that were sealed, and the same commits can be made again.
 #[test]
 fn torn_writes_leave_it_whole(rt: HostRuntime) -> Result<(), Fail> {
     let alloc = rt.alloc();
-    // Call 1 lists the names. The first commit writes at 2 to 5, the second at 6 to 10, the seal last.
-    for call in 2..11u64 {
-        for kind in 0..3u32 {
-            let mut store = failing(alloc, call, left_of(alloc, kind)?)?;
-            assert!(rt; !go_on(alloc, &mut store)?);
-            let sealed = u32::from(call >= 5) + u32::from(call == 10);
-            let torn = u32::from((call == 5 || call == 10) && kind < 2);
-            let generation = sealed.saturating_sub(torn);
-            let found = counted(alloc, &mut store)?;
-            assert_eq!(rt; found, (generation, counts_at(generation)));
+    for (call, without, torn) in TORN {
+        for (left, made) in [("absent", without), ("as before", without), ("1", torn)] {
+            let mut store = failing(alloc, call, left)?;
+            let failed = !go_on(alloc, &mut store)?;
+            let found = told(alloc, &mut store, &ALL)?;
+            assert_eq!(rt; (failed, found.as_str()), (true, made), "{call} {left}");
             assert!(rt; go_on(alloc, &mut store)?);
-            assert_eq!(rt; counted(alloc, &mut store)?, (2, counts_at(2)));
+            assert_eq!(rt; told(alloc, &mut store, &ALL)?.as_str(), BOTH_MADE);
         }
     }
     Ok(())
@@ -190,14 +160,11 @@ fn an_empty_folder_keeps_it(rt: HostRuntime) -> Result<(), Fail> {
     fs::create_dir(&rt, path.as_str())?;
     let mut store = DirStore::at(&rt, path.clone()?);
     assert!(rt; go_on(alloc, &mut store)?);
-    assert_eq!(rt; counted(alloc, &mut store)?, (2, counts_at(2)));
-    for name in store.names(alloc)? {
-        store.remove(alloc, &name)?;
-    }
-    fs::remove_dir(&rt, path.as_str())?;
+    assert_eq!(rt; told(alloc, &mut store, &ALL)?.as_str(), BOTH_MADE);
+    fs::remove_dir_all(&rt, path.as_str())?;
     assert_eq!(rt;
-        open_database(alloc, &mut store).err(),
-        Some(DbFault::StoreFault)
+        told(alloc, &mut store, &[Ask::Head])?.as_str(),
+        "StoreFault\n"
     );
     Ok(())
 }

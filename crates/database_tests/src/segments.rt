@@ -36,6 +36,28 @@ const MIXED: [u8; 45] = [
     0x02, 0x00, 0x01, 0x00, 0x00, 0x01, 0x01, // two processors, a loss of the second: index 0, cycles
 ];
 
+// what is read of each
+const FLUSHED_TEXT: &str = "RunSegment { run: 1, part: 0, last: true, first_epoch: 0, drains: [\
+    Drain { at: 0, epoch: 0, batch: Batch { note: Note { cpu: 0, cell: 2, number: 1, \
+    upto: 0, answers: 1, sent0: 0, sent1: 0 }, entries: [] }, known: [] }], losses: [[]] }";
+
+const COUNTED_TEXT: &str = "RunSegment { run: 3, part: 2, last: true, first_epoch: 5, drains: [\
+    Drain { at: 4, epoch: 6, batch: Batch { note: Note { cpu: 1, cell: 0, number: 1, \
+    upto: 9, answers: 0, sent0: 1, sent1: 0 }, entries: [\
+    Entry { key: Key { pc: 4096, pid: 7, event: Imiss }, count: 300 }] }, known: [true] }], \
+    losses: [[], [Loss { index: 4, event: Cycles, word0: 1, word1: 1 }, \
+    Loss { index: 5, event: Dmiss, word0: 1, word1: 131 }]] }";
+
+const MIXED_TEXT: &str = "RunSegment { run: 1, part: 0, last: true, first_epoch: 0, drains: [\
+    Drain { at: 0, epoch: 0, batch: Batch { note: Note { cpu: 0, cell: 2, number: 1, \
+    upto: 5, answers: 1, sent0: 0, sent1: 0 }, entries: [\
+    Entry { key: Key { pc: 0, pid: 7, event: Cycles }, count: 3 }, \
+    Entry { key: Key { pc: 4, pid: 7, event: Cycles }, count: 2 }] }, known: [true, false] }, \
+    Drain { at: 0, epoch: 0, batch: Batch { note: Note { cpu: 2, cell: 0, number: 1, \
+    upto: 5, answers: 0, sent0: 1, sent1: 0 }, entries: [\
+    Entry { key: Key { pc: 8, pid: 8, event: Branchmp }, count: 5 }] }, known: [false] }], \
+    losses: [[], [Loss { index: 0, event: Cycles, word0: 1, word1: 1 }]] }";
+
 // a place of the counted segment, the byte that is put there, and where the first bad field then begins
 const DAMAGES: [(usize, u8, usize); 15] = [
     (0, 2, 0),
@@ -61,58 +83,30 @@ fn needs_sync<T: Sync>(_value: &T) {}
 
 #[test]
 fn segments_both_ways(rt: HostRuntime) -> Result<(), Fail> {
-    for bytes in [FLUSHED.as_slice(), COUNTED.as_slice(), MIXED.as_slice()] {
-        let segment = read_segment(rt.alloc(), bytes)?;
-        let written = write_segment(rt.alloc(), &segment)?;
-        assert_eq!(rt; written.as_slice(), bytes);
+    let alloc = rt.alloc();
+    for (bytes, text) in [
+        (FLUSHED.as_slice(), FLUSHED_TEXT),
+        (COUNTED.as_slice(), COUNTED_TEXT),
+        (MIXED.as_slice(), MIXED_TEXT),
+    ] {
+        let segment = read_segment(alloc, bytes)?;
+        assert_eq!(rt; format!(in alloc; "{segment:?}")?.as_str(), text);
+        assert_eq!(rt; write_segment(alloc, &segment)?.as_slice(), bytes);
     }
+    Ok(())
+}
+
+#[test]
+fn laws_and_threads(rt: HostRuntime) -> Result<(), Fail> {
     segment_spelled_once();
     segment_begins_no_other();
     segments_are_in_range();
-    Ok(())
-}
-
-#[test]
-fn the_flushed_segment(rt: HostRuntime) -> Result<(), Fail> {
     let segment = read_segment(rt.alloc(), &FLUSHED)?;
-    assert_eq!(rt; (segment.run, segment.part, segment.last), (1, 0, true));
-    assert_eq!(rt; segment.first_epoch, 0);
-    assert_eq!(rt; segment.drains.len(), 1);
-    for drain in &segment.drains {
-        let batch = &drain.batch;
-        let note = batch.note;
-        assert_eq!(rt; (drain.at, drain.epoch), (0, 0));
-        assert_eq!(rt; (note.cpu, note.cell, note.number), (0, 2, 1));
-        assert_eq!(rt; (note.upto, note.answers, batch.entries.len()), (0, 1, 0));
-    }
-    assert_eq!(rt; segment.losses.len(), 1);
-    for losses in &segment.losses {
-        assert_eq!(rt; losses.len(), 0);
-    }
     needs_send(&segment);
     needs_sync(&segment);
-    Ok(())
-}
-
-#[test]
-fn the_counted_segment(rt: HostRuntime) -> Result<(), Fail> {
-    let segment = read_segment(rt.alloc(), &COUNTED)?;
-    for drain in &segment.drains {
-        let batch = &drain.batch;
-        assert_eq!(rt; drain.known.as_slice(), [true].as_slice());
-        for entry in &batch.entries {
-            let key = entry.key;
-            assert_eq!(rt; (key.pid, key.pc, entry.count), (7, 0x1000, 300));
-            assert_eq!(rt; key.event, Event::Imiss);
-        }
-    }
-    assert_eq!(rt; segment.losses.len(), 2);
-    for losses in &segment.losses {
-        for loss in losses {
-            assert_eq!(rt; loss.index == 4 || loss.index == 5, true);
-            assert_eq!(rt; loss.event == Event::Cycles, loss.index == 4);
-        }
-    }
+    let kept = record_of(segment);
+    needs_send(&kept);
+    needs_sync(&kept);
     Ok(())
 }
 
@@ -156,24 +150,35 @@ fn record_of(segment: RunSegment) -> RunRecord
     }
 }
 
+// what the mixed segment counts
+const TALLY: [TallyRow; 3] = [
+    TallyRow {
+        cpu: 0,
+        event: Event::Cycles,
+        attributed: 3,
+        unknown: 2,
+        lost: 0,
+    },
+    TallyRow {
+        cpu: 1,
+        event: Event::Cycles,
+        attributed: 0,
+        unknown: 0,
+        lost: 1,
+    },
+    TallyRow {
+        cpu: 2,
+        event: Event::Branchmp,
+        attributed: 0,
+        unknown: 5,
+        lost: 0,
+    },
+];
+
 #[test]
 fn a_tally_by_hand(rt: HostRuntime) -> Result<(), Fail> {
     let kept = record_of(read_segment(rt.alloc(), &MIXED)?);
     let rows = tally(rt.alloc(), &kept)?;
-    let row = |cpu, event, attributed, unknown, lost| TallyRow {
-        cpu,
-        event,
-        attributed,
-        unknown,
-        lost,
-    };
-    let expected = [
-        row(0, Event::Cycles, 3, 2, 0),
-        row(1, Event::Cycles, 0, 0, 1),
-        row(2, Event::Branchmp, 0, 5, 0),
-    ];
-    assert_eq!(rt; rows.as_slice(), expected.as_slice());
-    needs_send(&kept);
-    needs_sync(&kept);
+    assert_eq!(rt; rows.as_slice(), TALLY.as_slice());
     Ok(())
 }

@@ -18,6 +18,3 @@ pub use profiles::Profile;
 pub use reading::read_profile;
 pub use var_bytes::FormError as ProfileError;
 pub use writing::write_profile;
-
-#[cfg(test)]
-mod tests;

@@ -17,6 +17,3 @@ pub use laws::{
     read_as_spelled, spelled_by_numbers,
 };
 pub use numbers::{VarBad, put_number, take_number};
-
-#[cfg(test)]
-mod tests;
