@@ -1,6 +1,6 @@
 #!/bin/sh
 # Commits one profile into a database of many images and rows in memory, and one into an empty database, and prints both
-# times and that of opening the large one.
+# times, that of opening the large one, and that of reading a head of as many images and no rows alone.
 # usage: bench/commit.sh [IMAGES [ROWS [ROUNDS]]]; the least time of the rounds counts
 set -eu
 images=${1:-4096}
@@ -15,5 +15,6 @@ awk '
     NR == 1 { print }
     /^opening/ {
         printf "opening: %d us\n", $2
-        printf "commit of one profile: %d us, into an empty database %d us\n", $4, $6
+        printf "head of the images alone: %d us\n", $4
+        printf "commit of one profile: %d us, into an empty database %d us\n", $6, $8
     }' "$folder/times.txt"

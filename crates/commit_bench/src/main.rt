@@ -1,5 +1,6 @@
-//! Opens a database of so many images and rows, and commits a profile and an unknown one into it. With a number of rounds it prints how
-//! long that took at best, beside a commit of one profile into an empty database.
+//! Opens a database of so many images and rows, and commits a profile and an unknown one into it. With a number of
+//! rounds it prints how long that took at best, beside the reading of a head of so many images and no rows alone, and a
+//! commit of one profile into an empty database.
 //! The arguments are IMAGES, ROWS and, where times are wanted, ROUNDS.
 #![tactic(auto)]
 
@@ -8,6 +9,7 @@ mod heads;
 use anyhow::{Context, Result};
 use database_tests::{first_change, second_change};
 use epoch_store::{Database, commit, open_database};
+use head_file::read_head;
 use std::alloc::Global;
 use std::env;
 use std::rt::Clock;
@@ -88,6 +90,20 @@ fn time<R: Print + AllocGlobal + Clock>(rt: &R, images: u32, rows: u32, rounds: 
         commit_first(rt.alloc(), &mut db, &mut fresh)?;
         empty = empty.min(start.elapsed(rt)?.as_micros());
     }
-    println!(rt; "opening {opening} large {large} empty {empty}")?;
+    let head = time_of_head(rt, images, rounds)?;
+    println!(rt; "opening {opening} head {head} large {large} empty {empty}")?;
     Ok(())
+}
+
+/// How long the text of a head of so many images and no rows takes to read, at best.
+fn time_of_head<R: AllocGlobal + Clock>(rt: &R, images: u32, rounds: u32) -> Result<u128> {
+    let text = heads::head_text(rt.alloc(), images, 0)?;
+    let mut least = u128::MAX;
+    for _ in 0..rounds {
+        let start = Instant::now(rt)?;
+        let head = read_head(rt.alloc(), text.as_bytes(), 1)?;
+        least = least.min(start.elapsed(rt)?.as_micros());
+        head.context("the head is not read")?;
+    }
+    Ok(least)
 }
