@@ -1,0 +1,4 @@
+pub mod Sums
+pub mod Gathering
+pub mod Faults
+pub mod Changing
