@@ -1,6 +1,8 @@
 -- One count more in a profile, and in what was gathered.
 use Rattle.std.proofs.Common.{arith, ◌≡◌, ℕ, ◌+◌, ◌*◌, ◌%◌, ◌^◌, ◌<◌, ◌≤◌, ◌&&◌, Bool, true, false, eqb, cond, List, [], ◌∷◌, Option, None, Some, refl, sym, ap, ◌∙◌, subst}
 use Rattle.std.specs.Prelude.{◌==◌, if◌then◌else◌, unwrap_or}
+use Rattle.std.specs.Prelude.{OnOk, OnErr, Ok, Err}
+use Rattle.std.specs.declared.result.Result.{Result}
 use Rattle.std.specs.declared.cmp.Ordering.{Ordering}
 use Rattle.std.specs.declared.cmp.Ordering.TheVariants.{Less, Equal, Greater}
 use Rattle.std.specs.Ordering.{nat_cmp, MatchOrdering, match_ordering}
@@ -155,3 +157,17 @@ found_by false v rest w is are later = later is
 pub found_are : (test : Owner → Bool) (es : Collected) (w : Counts) → lookup test es ≡ Some w → AreSums es → AreCounts w
 found_are test [] w found all = absurd cc
 found_are test (e ∷ es) w found all = found_by (test e.0) e.1 (lookup test es) w found all.0 (λ later. found_are test es w later all.1)
+
+-- ---- of answers
+
+pub on_ok : {T E P Q : Type 0} (r : Result T E) → (P → Q) → OnOk r P → OnOk r Q
+on_ok (Ok value) f p = f p
+on_ok (Err error) f p = tt
+
+pub on_err : {T E P Q : Type 0} (r : Result T E) → (P → Q) → OnErr r P → OnErr r Q
+on_err (Ok value) f p = tt
+on_err (Err error) f p = f p
+
+pub always_err : {T E Q : Type 0} (r : Result T E) → Q → OnErr r Q
+always_err (Ok value) q = tt
+always_err (Err error) q = q

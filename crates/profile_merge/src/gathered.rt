@@ -2,9 +2,11 @@
 
 use crate::owners::Owner;
 use crate::sums::Sums;
-use std::alloc::Global;
+use sample_key::Entry;
+use std::alloc::{AllocError, Global};
 use std::collections::BTreeMap;
 use std::marker::Model;
+use trace_model::Place;
 
 /// Counts by profile and offset, of all batches that were gathered. An image is given by its index in the trace.
 #[derive(Drop)]
@@ -23,8 +25,9 @@ impl Model for Gathered {
 }
 
 impl Gathered {
-    ghost use Rattle.std.specs.Prelude.{◌≡◌, ℕ, List, []};
+    ghost use Rattle.std.specs.Prelude.{◌≡◌, ◌%◌, ◌≤◌, ℕ, List, [], IfSome, OnOk, OnErr};
     ghost use Rattle.trace_model.specs.declared.notices.Record.{Record as Notice};
+    ghost use Rattle.profile_merge.specs.Sums.{AddsEntry, PutsCount, HasSame};
     ghost use Rattle.profile_merge.specs.Gathering.{Gathers, ImagesAreIn, EpochsAreUpTo};
 
     /// Nothing gathered.
@@ -37,5 +40,63 @@ impl Gathered {
         Gathered {
             sums: BTreeMap::new(alloc),
         }
+    }
+
+    /// Adds an entry: at its place, or as unknown where it has none. After a refusal all sums are as before.
+    pub(crate) fn add(
+        &mut self,
+        alloc: Global,
+        epoch: u32,
+        entry: &Entry,
+        place: Option<Place>,
+    ) -> Result<(), AllocError>
+        requires aligned { IfSome place (λ found. found.offset % 4 ≡ 0) }
+        ensures added { OnOk result (AddsEntry epoch place entry.now self.old self.new) }
+        ensures refused { OnErr result (HasSame self.old self.new) }
+    {
+        match place {
+            Some(place) => self.put(
+                alloc,
+                Owner::Known {
+                    epoch,
+                    image: place.image,
+                    event: entry.key.event,
+                },
+                place.offset,
+                entry.count,
+            ),
+            None => self.put(
+                alloc,
+                Owner::Unknown {
+                    epoch,
+                    event: entry.key.event,
+                },
+                entry.key.pc,
+                entry.count,
+            ),
+        }
+    }
+
+    fn put(&mut self, alloc: Global, owner: Owner, at: u64, count: u32) -> Result<(), AllocError>
+        requires aligned { at % 4 ≡ 0 }
+        requires some { 1 ≤ count }
+        ensures put { OnOk result (PutsCount self.old self.new owner at count) }
+        ensures refused { OnErr result (HasSame self.old self.new) }
+    {
+        match self.sums.get_mut(&owner) {
+            Some(held) => held.add(at, count),
+            None => {
+                let first = Sums::of(alloc, at, count)?;
+                self.sums.insert(owner, first)?;
+                Ok(())
+            }
+        }
+    }
+
+    /// The sums, by profile.
+    pub(crate) fn sums(&self) -> &BTreeMap<Owner, Sums>
+        ensures { result.now.entries ≡ self.now }
+    {
+        &self.sums
     }
 }

@@ -43,10 +43,11 @@ pub fn gather(
     ensures epochs { (last : ℕ) → epoch ≤ last →
         EpochsAreUpTo last into.old → EpochsAreUpTo last into.new }
 {
-    let _ = alloc;
-    let _ = batch;
-    let _ = mappings;
-    let _ = epoch;
-    let _ = into;
-    Err(AllocError)
+    let mut known = Vec::with_capacity(alloc, batch.entries.len())?;
+    for entry in &batch.entries {
+        let place = mappings.place(entry.key.pid, entry.key.pc);
+        known.push(place.is_some())?;
+        into.add(alloc, epoch, entry, place)?;
+    }
+    Ok(known)
 }

@@ -1,5 +1,6 @@
 //! Whose profile a count belongs to.
 
+use database_state::FullWhat;
 use sample_key::Event;
 
 /// Whose profile a count belongs to: an image's, or that of the samples with no known mapping. The order is that in which a
@@ -17,4 +18,32 @@ pub enum Owner {
         epoch: u32,
         event: Event,
     },
+}
+
+impl Owner {
+    ghost use Rattle.std.specs.Prelude.{◌≡◌};
+    ghost use Rattle.profile_merge.specs.Faults.{full_at};
+
+    /// A place in its profile, as a fault names it.
+    pub(crate) fn full_at(self, offset: u64) -> FullWhat
+        ensures { result ≡ full_at self offset }
+    {
+        match self {
+            Owner::Known {
+                epoch,
+                image,
+                event,
+            } => FullWhat::Known {
+                epoch,
+                image,
+                event: event.code(),
+                offset,
+            },
+            Owner::Unknown { epoch, event } => FullWhat::Unknown {
+                epoch,
+                event: event.code(),
+                pc: offset,
+            },
+        }
+    }
 }
