@@ -1,19 +1,20 @@
 -- One count more in a profile, and in what was gathered.
-use Rattle.std.proofs.Common.{arith, ◌≡◌, ℕ, ◌+◌, ◌*◌, ◌%◌, ◌^◌, ◌<◌, ◌≤◌, ◌&&◌, Bool, true, false, eqb, cond, List, [], ◌∷◌, Option, None, Some, refl, sym, ap, ◌∙◌, subst}
+use Rattle.std.proofs.Common.{arith, ◌≡◌, ℕ, ◌+◌, ◌%◌, ◌^◌, ◌<◌, ◌≤◌, ◌&&◌, Bool, true, false, eqb, cond, [], ◌∷◌, Option, None, Some, refl, sym, ap, ◌∙◌, subst}
 use Rattle.std.specs.Prelude.{◌==◌, if◌then◌else◌, unwrap_or}
-use Rattle.std.specs.Prelude.{OnOk, OnErr, Ok, Err}
+use Rattle.std.specs.Prelude.{OnOk, OnErr, Ok, Err, IfSome}
+use Rattle.std.specs.Borrow.{Bor}
+use Rattle.std.specs.Option.{option_copied}
 use Rattle.std.specs.declared.result.Result.{Result}
 use Rattle.std.specs.declared.cmp.Ordering.{Ordering}
 use Rattle.std.specs.declared.cmp.Ordering.TheVariants.{Less, Equal, Greater}
 use Rattle.std.specs.Ordering.{nat_cmp, MatchOrdering, match_ordering}
-use Rattle.std.specs.BTreeMap.{BTreeMap, insert_entry, is_at, get}
+use Rattle.std.specs.BTreeMap.{insert_entry, is_at}
 use Rattle.std.specs.Map.{lookup, set_value}
-use Rattle.std.specs.List.{AllByRecursion}
 use Rattle.std.proofs.lemmas.Bool.{eqb-true}
 use Rattle.std.proofs.lemmas.Bool.Decides.{nat_tests}
 use Rattle.std.proofs.lemmas.Cmp.{ranked}
 use Rattle.profile_merge.specs.declared.owners.Owner.{Owner}
-use Rattle.profile_merge.specs.Sums.{Counts, Collected, same_owner, sum_at, counts_in, gathered_at, AddsCount, PutsCount, HasSame, CountsRiseFrom, AreCounts, AreSums}
+use Rattle.profile_merge.specs.Sums.{Counts, Collected, same_owner, sum_at, AddsCount, PutsCount, HasSame, CountsRiseFrom, AreCounts, AreSums}
 use Rattle.profile_merge.proofs.OwnerOrder.{owner_cmp, at_is_same, same_equal}
 
 -- ---- the counts of one profile
@@ -171,3 +172,10 @@ on_err (Err error) f p = f p
 pub always_err : {T E Q : Type 0} (r : Result T E) → Q → OnErr r Q
 always_err (Ok value) q = tt
 always_err (Err error) q = q
+
+pub some_are : (test : Owner → Bool) (es : Collected) (r : Option (Bor Counts)) → option_copied r ≡ lookup test es → AreSums es → IfSome r (λ counts. AreCounts counts.now)
+some_are test es None found sums = tt
+some_are test es (Some counts) found sums = found_are test es counts.now (sym found) sums
+
+pub found_same : (es : Collected) (owner : Owner) → lookup (is_at (owner_cmp owner)) es ≡ lookup (same_owner owner) es
+found_same es owner = ap (λ (test : Owner → Bool). lookup test es) (at_is_same owner)

@@ -1,17 +1,15 @@
 -- What one drain more adds, and nothing gathered.
-use Rattle.std.proofs.Common.{◌≡◌, ℕ, ◌+◌, Bool, true, false, List, [], ◌∷◌, ◌++◌, Option, None, Some, refl, sym, ap, ◌∙◌, arith, eqb}
+use Rattle.std.proofs.Common.{◌≡◌, ℕ, ◌+◌, Bool, true, false, List, [], ◌∷◌, ◌++◌, Option, None, Some, refl, sym, ◌∙◌, arith}
 use Rattle.std.specs.Prelude.{if◌then◌else◌, ◌==◌}
 use Rattle.sample_key.specs.Sent.{Sent}
 use Rattle.sample_key.specs.declared.events.Event.{Event}
 use Rattle.sample_key.specs.Events.{event_of_code}
 use Rattle.image_catalog.specs.Images.{place_of}
-use Rattle.trace_model.specs.Attribution.{place_at}
 use Rattle.trace_model.specs.declared.notices.Record.{Record}
 use Rattle.database_model.specs.Runs.{Drained}
-use Rattle.growth_model.specs.Additions.{Additions, known_of, unknown_of, known_drained, unknown_drained, additions_of}
+use Rattle.growth_model.specs.Additions.{Additions, additions_of}
 use Rattle.growth_model.proofs.Sums.{drains_add}
-use Rattle.profile_merge.specs.Sums.{Collected}
-use Rattle.profile_merge.specs.Gathering.{known_by, unknown_by, additions_in, AddAlike, Gathers, drained, first_of}
+use Rattle.profile_merge.specs.Gathering.{known_by, unknown_by, AddAlike, Gathers, drained, first_of}
 
 -- ---- nothing gathered
 

@@ -16,13 +16,13 @@ use Rattle.trace_model.specs.Recording.{name_at, HasImage}
 use Rattle.trace_model.specs.declared.notices.Place.{Place}
 use Rattle.trace_model.specs.declared.notices.Record.{Record}
 use Rattle.database_model.specs.Runs.{Drained}
-use Rattle.growth_model.specs.Additions.{known_count, unknown_count, known_of, unknown_of, additions_of}
+use Rattle.growth_model.specs.Additions.{known_count, unknown_count, known_of, unknown_of}
 use Rattle.growth_model.proofs.Sums.{drains_add}
 use Rattle.profile_merge.specs.declared.owners.Owner.{Owner}
 use Rattle.profile_merge.specs.declared.owners.Owner.TheVariants.{Known, Unknown}
 use Rattle.profile_merge.specs.Sums.{Collected, same_owner, gathered_at, owner_at, offset_at, entries_add, AddsEntries}
-use Rattle.profile_merge.specs.Gathering.{known_by, unknown_by, additions_in, ImagesAreIn, EpochsAreUpTo, epoch_of, Gathers, drained, first_of}
-use Rattle.profile_merge.proofs.Names.{is_place, name_test}
+use Rattle.profile_merge.specs.Gathering.{known_by, unknown_by, additions_in, ImagesAreIn, EpochsAreUpTo, epoch_of, Gathers, drained}
+use Rattle.profile_merge.proofs.Names.{name_test}
 use Rattle.profile_merge.proofs.OwnerOrder.{same_itself, event_back}
 
 flip : (a b : ℕ) → eqb a b ≡ eqb b a

@@ -1,9 +1,7 @@
 -- Profiles in their order, and which are one.
 use Rattle.std.proofs.Common.{arith, ◌≡◌, ℕ, ◌&&◌, Bool, true, false, eqb, Some, refl, sym, ap, ◌∙◌, subst}
-use Rattle.std.specs.Prelude.{nat_lt, ◌||◌}
 use Rattle.std.specs.declared.cmp.Ordering.{Ordering}
-use Rattle.std.specs.declared.cmp.Ordering.TheVariants.{Less, Equal, Greater}
-use Rattle.std.specs.Ordering.{nat_cmp, ordering_then, is_eq, is_lt, on, then_cmp}
+use Rattle.std.specs.Ordering.{nat_cmp, ordering_then, is_eq, on, then_cmp}
 use Rattle.std.specs.Cmp.{IsTotalOrder, tied_then}
 use Rattle.std.specs.BTreeMap.{is_at}
 use Rattle.std.proofs.lemmas.Bool.{and_parts, eqb-true}
@@ -21,7 +19,7 @@ use Rattle.profile_merge.specs.Sums.{same_owner}
 abbrev event_cmp : Event → Event → Ordering
 event_cmp = event_ord.cmp-value.it
 
-by_codes : (v w : Event) → event_cmp v w ≡ nat_cmp (code_of v) (code_of w)
+pub by_codes : (v w : Event) → event_cmp v w ≡ nat_cmp (code_of v) (code_of w)
 by_codes Cycles Cycles = refl
 by_codes Cycles Imiss = refl
 by_codes Cycles Dmiss = refl

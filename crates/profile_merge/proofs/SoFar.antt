@@ -1,7 +1,6 @@
 -- The entries of a batch so far.
-use Rattle.std.proofs.Common.{arith, ◌≡◌, ℕ, ◌+◌, ◌<◌, ◌≤◌, inl, inr, Bool, List, [], ◌∷◌, ◌++◌, Option, None, Some, map, take, length, refl, sym, ap, ◌∙◌, subst}
+use Rattle.std.proofs.Common.{arith, ◌≡◌, ℕ, ◌+◌, ◌≤◌, Bool, List, [], ◌∷◌, ◌++◌, Option, map, take, refl, sym, ap, ◌∙◌, subst}
 use Rattle.std.specs.Prelude.{is_some}
-use Rattle.std.proofs.lemmas.Bool.{cases_lt}
 use Rattle.std.proofs.lemmas.List.{map-append}
 use Rattle.sample_key.specs.Counted.{Counted}
 use Rattle.sample_key.specs.Sent.{Sent}
@@ -14,8 +13,8 @@ use Rattle.load_map.specs.Maps.{StandsFor, Finds}
 use Rattle.database_model.specs.Runs.{Drained}
 use Rattle.run_model.specs.Daemon.{is_known}
 use Rattle.profile_merge.specs.declared.owners.Owner.{Owner}
-use Rattle.profile_merge.specs.Sums.{Collected, gathered_at, entries_add, AddsEntry, AddsEntries, HasSame}
-use Rattle.profile_merge.specs.Gathering.{ImagesAreIn, EpochsAreUpTo, epoch_of, Gathers, drained, first_of}
+use Rattle.profile_merge.specs.Sums.{Collected, entries_add, AddsEntry, AddsEntries, HasSame}
+use Rattle.profile_merge.specs.Gathering.{ImagesAreIn, EpochsAreUpTo, Gathers, drained, first_of}
 use Rattle.profile_merge.proofs.Named.{gathers_more, images_more, epochs_more}
 
 -- the first entries were added, and their flags are known

@@ -10,12 +10,11 @@ use Rattle.database_model.specs.Ranges.{IsSegment}
 use Rattle.database_model.specs.Runs.{Drained, Segment}
 use Rattle.database_state.specs.Heads.{Head}
 use Rattle.database_state.specs.Standing.{database_of}
-use Rattle.database_state.specs.Updates.{Update, updated, head_after}
+use Rattle.database_state.specs.Updates.{Update, updated}
 use Rattle.database_state.specs.declared.faults.DbFault.{DbFault}
 use Rattle.database_state.specs.declared.faults.DbFault.TheVariants.{StoreFault, Bad, Full, Memory}
 use Rattle.growth_model.specs.Additions.{Additions, additions_of}
 use Rattle.growth_model.specs.Growth.{Grows}
-use Rattle.growth_model.specs.Fitting.{HeadGrows}
 use Rattle.profile_merge.specs.Sums.{Collected}
 use Rattle.profile_merge.specs.Gathering.{Gathers}
 use Rattle.profile_merge.specs.Faults.{IsFirstFault}

@@ -4,7 +4,6 @@ use Rattle.std.specs.declared.option.Option.{Option}
 use Rattle.std.specs.declared.option.Option.TheVariants.{Some, None}
 use Rattle.std.specs.List.{IsDistinct}
 use Rattle.std.specs.Str.{bytes_eq}
-use Rattle.sample_key.specs.Counted.{Counted}
 use Rattle.sample_key.specs.Sent.{Sent}
 use Rattle.sample_key.specs.Events.{event_of_code}
 use Rattle.sample_key.specs.declared.events.Event.{Event}

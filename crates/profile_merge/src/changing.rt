@@ -13,8 +13,11 @@ ghost use Rattle.profile_merge.specs.Faults.{IsFirstFault};
 ghost use Rattle.profile_merge.specs.Changing.{Follows, OfGathered, GrowsFiles, HasFaultCause, IsAnswered, HasChangeCause};
 
 use crate::gathered::Gathered;
+use crate::growing::{renew_all, split};
+use crate::numbering::{number_images, used_images};
+use crate::parts::parts_of;
 use database_model::RunSegment;
-use database_state::{Change, DbFault};
+use database_state::{Change, DbFault, told_profiles_rise};
 use epoch_store::Database;
 use std::alloc::Global;
 use store_io::Store;
@@ -59,12 +62,17 @@ pub fn change_of<D: Store>(
     ensures cause { HasChangeCause (D.faults store.old) (D.faults store.new) result }
     ensures origin { D.origin store.new ≡ D.origin store.old }
 {
-    let _ = alloc;
-    let _ = gathered;
-    let _ = names;
-    let _ = db;
-    let _ = epoch;
-    let _ = segment;
-    let _ = store;
-    Err(DbFault::Memory)
+    told_profiles_rise();
+    let used = used_images(alloc, gathered, names.len())?;
+    let numbered = number_images(alloc, &used, names, db.catalog())?;
+    let parts = parts_of(alloc, gathered, &numbered.numbers)?;
+    let all = renew_all(alloc, gathered, &parts, db, store)?;
+    let kinds = split(alloc, all)?;
+    Ok(Change {
+        epoch,
+        names: numbered.names,
+        known: kinds.known,
+        unknown: kinds.unknown,
+        segment,
+    })
 }

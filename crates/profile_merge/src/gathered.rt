@@ -27,7 +27,9 @@ impl Model for Gathered {
 impl Gathered {
     ghost use Rattle.std.specs.Prelude.{◌≡◌, ◌%◌, ◌≤◌, ℕ, List, [], IfSome, OnOk, OnErr};
     ghost use Rattle.trace_model.specs.declared.notices.Record.{Record as Notice};
-    ghost use Rattle.profile_merge.specs.Sums.{AddsEntry, PutsCount, HasSame};
+    ghost use Rattle.std.specs.Option.{option_copied};
+    ghost use Rattle.std.specs.Map.{lookup};
+    ghost use Rattle.profile_merge.specs.Sums.{AddsEntry, AreCounts, AreSums, PutsCount, HasSame, same_owner};
     ghost use Rattle.profile_merge.specs.Gathering.{Gathers, ImagesAreIn, EpochsAreUpTo};
 
     /// Nothing gathered.
@@ -95,8 +97,17 @@ impl Gathered {
 
     /// The sums, by profile.
     pub(crate) fn sums(&self) -> &BTreeMap<Owner, Sums>
-        ensures { result.now.entries ≡ self.now }
+        ensures sums { result.now.entries ≡ self.now }
+        ensures counts { AreSums self.now }
     {
         &self.sums
+    }
+
+    /// The sums of a profile; nothing exactly where nothing was gathered for it.
+    pub(crate) fn counts(&self, owner: &Owner) -> Option<&Sums>
+        ensures found { option_copied result ≡ lookup (same_owner owner.now) self.now }
+        ensures counts { IfSome result (λ counts. AreCounts counts.now) }
+    {
+        self.sums.get(owner)
     }
 }

@@ -8,7 +8,11 @@
 mod changing;
 mod gathered;
 mod gathering;
+mod growing;
+mod merging;
+mod numbering;
 mod owners;
+mod parts;
 mod sums;
 
 pub use changing::change_of;

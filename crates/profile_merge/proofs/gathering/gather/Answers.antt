@@ -1,12 +1,12 @@
 -- Each exit has the entries so far.
-use Rattle.std.proofs.Common.{rules, arith, ◌≡◌, ℕ, ◌+◌, [], ◌∷◌, ◌++◌, List, ◌∙◌, refl, sym, ap, subst, take, length}
+use Rattle.std.proofs.Common.{rules, arith, ◌≡◌, ◌+◌, [], ◌∷◌, ◌++◌, List, ◌∙◌, sym, ap, subst, take}
 use Rattle.std.specs.Prelude.{is_some}
 use Rattle.std.proofs.lemmas.List.{take_more, take_all}
 use Rattle.sample_key.specs.Counted.{Counted}
 use Rattle.load_map.specs.Maps.{Finds}
 use Rattle.profile_merge.specs.Sums.{AddsEntry}
 use Rattle.profile_merge.proofs.Drains.{alike_then, adds_nothing}
-use Rattle.profile_merge.proofs.SoFar.{SoFar, none_so_far, one_more, same_so_far, refused_at, gathered_all, images_so_far}
+use Rattle.profile_merge.proofs.SoFar.{SoFar, one_more, same_so_far, refused_at, gathered_all, images_so_far}
 use Rattle.profile_merge.proofs.Counting.{always_err}
 use Rattle.profile_merge.proofs.gathering.gather.Goals as goal
 

@@ -1,9 +1,9 @@
 -- One count more, in the profile that is there or in a new one.
-use Rattle.std.proofs.Common.{rules, arith, ◌≡◌, ◌+◌, ◌≤◌, [], ◌∷◌, None, Some, Option, ◌∙◌, ap, refl, subst, sym}
+use Rattle.std.proofs.Common.{rules, arith, ◌≡◌, [], None, Some, Option, ◌∙◌, ap, refl, subst, sym}
 use Rattle.std.specs.Prelude.{unwrap_or, IsSome}
 use Rattle.std.specs.BTreeMap.{is_at}
 use Rattle.std.specs.Map.{lookup}
-use Rattle.profile_merge.specs.Sums.{Counts, AddsCount, AreCounts, AreSums, PutsCount, HasSame}
+use Rattle.profile_merge.specs.Sums.{Counts, AddsCount, AreCounts, AreSums}
 use Rattle.profile_merge.proofs.Counting.{puts_count, has_same, sums_set, sums_insert, found_are, on_ok, on_err}
 use Rattle.profile_merge.proofs.OwnerOrder.{owner_cmp}
 use Rattle.profile_merge.proofs.gathered.Gathered.put.Goals as goal

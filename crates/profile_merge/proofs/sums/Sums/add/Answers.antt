@@ -1,10 +1,9 @@
 -- A map that has one count more.
-use Rattle.std.proofs.Common.{rules, arith, ◌≡◌, ◌+◌, ◌≤◌, ◌∙◌, ap, subst, sym}
+use Rattle.std.proofs.Common.{rules, arith, ◌≡◌, ◌+◌, ◌≤◌}
 use Rattle.std.specs.Prelude.{unwrap_or}
 use Rattle.std.specs.Ordering.{nat_cmp}
-use Rattle.std.specs.BTreeMap.{is_at, insert_entry}
+use Rattle.std.specs.BTreeMap.{is_at}
 use Rattle.std.specs.Map.{lookup}
-use Rattle.profile_merge.specs.Sums.{sum_at, AddsCount, AreCounts}
 use Rattle.profile_merge.proofs.Counting.{adds_count, counts_insert}
 use Rattle.profile_merge.proofs.sums.Sums.add.Goals as goal
 
