@@ -43,7 +43,7 @@ none_by name n names false other none rest =
     let this : bytes_eq name n ≡ false = nat_list_eq_equiv.symm name n ∙ other in
     rw (this, later) refl
 
-none_any : (name : List ℕ) (names : List (List ℕ)) → place_of name names ≡ None → list_any (bytes_eq name) names ≡ false
+pub none_any : (name : List ℕ) (names : List (List ℕ)) → place_of name names ≡ None → list_any (bytes_eq name) names ≡ false
 none_any name [] none = refl
 none_any name (n ∷ names) none = none_by name n names (bytes_eq n name) refl none (λ later. none_any name names later)
 

@@ -11,6 +11,7 @@ pub mod MergeSteps
 pub mod Named
 pub mod Names
 pub mod NextRows
+pub mod NoFault
 pub mod Numbers
 pub mod OwnerOrder
 pub mod PartsSoFar

@@ -71,7 +71,7 @@ AreNew front names = AllByRecursion (λ n. place_of n front ≡ None) names
 not_first : (name n : List ℕ) → bytes_eq n name ≡ false → place_of name (n ∷ []) ≡ None
 not_first name n other = place_later name n [] other
 
-still_new : (front : List (List ℕ)) (n : List ℕ) (names : List (List ℕ)) → AllByRecursion (λ y. bytes_eq n y ≡ false) names → AreNew front names → AreNew (front ++ n ∷ []) names
+pub still_new : (front : List (List ℕ)) (n : List ℕ) (names : List (List ℕ)) → AllByRecursion (λ y. bytes_eq n y ≡ false) names → AreNew front names → AreNew (front ++ n ∷ []) names
 still_new front n [] others new = tt
 still_new front n (m ∷ names) others new = (place_behind m front (n ∷ []) new.0 ∙ ap (after (length front)) (not_first m n others.0), still_new front n names others.1 new.1)
 

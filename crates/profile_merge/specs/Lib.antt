@@ -5,3 +5,4 @@ pub mod Merging
 pub mod Numbering
 pub mod Renewing
 pub mod Changing
+pub mod Laws
