@@ -4,7 +4,7 @@ use Rattle.std.specs.Prelude.{is_some, is_none, unwrap_or, slice_index_or}
 use Rattle.std.specs.List.{IsDistinct, AllByRecursion}
 use Rattle.std.specs.Map.{lookup}
 use Rattle.std.specs.Str.{bytes_eq}
-use Rattle.std.proofs.lemmas.Bool.{eqb-true, eq-eqb}
+use Rattle.std.proofs.lemmas.Bool.{and_parts, eqb-true, eq-eqb}
 use Rattle.sample_key.specs.declared.events.Event.{Event}
 use Rattle.sample_key.specs.Events.{code_of, event_of_code}
 use Rattle.image_catalog.specs.Images.{place_of}
@@ -97,7 +97,7 @@ used_found (x ∷ g) i is = or_by (is_image i x.0) (is_used g i) is (λ here. he
 
 -- ---- the parts
 
-all_new : (names : List (List ℕ)) → AllByRecursion (λ n. place_of n [] ≡ None) names
+pub all_new : (names : List (List ℕ)) → AllByRecursion (λ n. place_of n [] ≡ None) names
 all_new [] = tt
 all_new (n ∷ names) = (refl, all_new names)
 
@@ -235,14 +235,10 @@ module _ (g : Collected) (names held : List (List ℕ)) (used : List Bool) (n : 
       ap (λ (o : Option ℕ). known_by g u.epoch counted.0 o (event_of_code (code_of u.event))) place ∙ ap (λ (w : Option Event). known_by g u.epoch counted.0 (Some i) w) (event_back u.event) in
       record { fresh = at; epoch = u.epoch; event = code_of u.event; counted = record { offset = counted.0; some = omega (arith, is, counted.1) } }
 
-  and_both : (a b : Bool) → (a && b) ≡ true → (a ≡ true) × (b ≡ true)
-  and_both true b is = (refl, is)
-  and_both false b is = absurd cc
-
   holds_by : (name : List ℕ) (o : Option ℕ) → place_of name names ≡ o → (used_at o && is_none (place_of name held)) ≡ true → IsNewName held added name
   unfolding used_at
   holds_by name None place is = absurd cc
-  holds_by name (Some i) place is = let both = and_both (slice_index_or used i false) (is_none (place_of name held)) is in is_new name i place both.0 (place_of name held) refl both.1
+  holds_by name (Some i) place is = let both = and_parts (slice_index_or used i false) (is_none (place_of name held)) is in is_new name i place both.0 (place_of name held) refl both.1
 
   counted_known : (epoch offset : ℕ) (o : Option ℕ) (w : Option Event) → 0 < known_by g epoch offset o w → (i : ℕ) × (v : Event) × (o ≡ Some i) × (w ≡ Some v) × (0 < gathered_at g (Known epoch i v) offset)
   counted_known epoch offset None w some = absurd (omega (arith, some))

@@ -7,6 +7,7 @@ use Rattle.std.specs.List.Sorted.{IsStrictlySortedBy}
 use Rattle.std.specs.Map.{lookup, keys_of}
 use Rattle.std.specs.Str.{bytes_eq}
 use Rattle.std.proofs.lemmas.Grind.{common_steps}
+use Rattle.std.proofs.lemmas.List.{append-nil}
 use Rattle.std.proofs.lemmas.Cmp.{nat_list_eq_equiv}
 use Rattle.std.proofs.lemmas.Map.Keys.{sorted_head, sorted_tail, IsDistinct-push}
 use Rattle.sample_key.specs.declared.events.Event.{Event}
@@ -27,7 +28,7 @@ use Rattle.profile_merge.specs.Faults.{IsNumbered}
 use Rattle.profile_merge.specs.Changing.{Follows}
 use Rattle.profile_merge.specs.Numbering.{new_names, fresh_of, numbers_of, renumbered}
 use Rattle.profile_merge.specs.Renewing.{Parts, ArePartsOf, known_file, unknown_file, known_files, unknown_files}
-use Rattle.profile_merge.proofs.Adding.{Numbering, counts_some, gathered_found, found_adds}
+use Rattle.profile_merge.proofs.Adding.{all_new, Numbering, counts_some, gathered_found, found_adds}
 use Rattle.profile_merge.proofs.Before.{less_comes}
 use Rattle.profile_merge.proofs.FirstWrong.{tail_found}
 use Rattle.profile_merge.proofs.Names.{place_first, place_later}
@@ -47,32 +48,24 @@ pub none_any : (name : List ℕ) (names : List (List ℕ)) → place_of name nam
 none_any name [] none = refl
 none_any name (n ∷ names) none = none_by name n names (bytes_eq n name) refl none (λ later. none_any name names later)
 
-nothing : (l : List (List ℕ)) → l ++ [] ≡ l
-nothing [] = refl
-nothing (x ∷ l) = ap (λ (m : List (List ℕ)). x ∷ m) (nothing l)
-
 with_new : (held front : List (List ℕ)) (n : List ℕ) (b : Bool) (o : Option ℕ) → place_of n held ≡ o → place_of n front ≡ None → IsDistinct bytes_eq (held ++ front) → IsDistinct bytes_eq (held ++ (front ++ (if b && is_none o then n ∷ [] else [])))
-with_new held front n false o at new apart = subst (λ (l : List (List ℕ)). IsDistinct bytes_eq (held ++ l)) (sym (nothing front)) apart
-with_new held front n true (Some k) at new apart = subst (λ (l : List (List ℕ)). IsDistinct bytes_eq (held ++ l)) (sym (nothing front)) apart
+with_new held front n false o at new apart = subst (λ (l : List (List ℕ)). IsDistinct bytes_eq (held ++ l)) (sym (append-nil front)) apart
+with_new held front n true (Some k) at new apart = subst (λ (l : List (List ℕ)). IsDistinct bytes_eq (held ++ l)) (sym (append-nil front)) apart
 with_new held front n true None at new apart =
     let none : place_of n (held ++ front) ≡ None = place_behind n held front at ∙ ap (after (length held)) new in
     subst (IsDistinct bytes_eq) (append_assoc held front (n ∷ [])) (IsDistinct-push nat_list_eq_equiv (held ++ front) n apart (none_any n (held ++ front) none))
 
 distinct_after : (held front : List (List ℕ)) (used : List Bool) (names : List (List ℕ)) → IsDistinct bytes_eq names → AreNew front names → IsDistinct bytes_eq (held ++ front) → IsDistinct bytes_eq (held ++ (front ++ fresh_of held used names))
 unfolding IsDistinct
-distinct_after held front [] names apart new so = subst (λ (l : List (List ℕ)). IsDistinct bytes_eq (held ++ l)) (sym (nothing front)) so
-distinct_after held front (u ∷ used) [] apart new so = subst (λ (l : List (List ℕ)). IsDistinct bytes_eq (held ++ l)) (sym (nothing front)) so
+distinct_after held front [] names apart new so = subst (λ (l : List (List ℕ)). IsDistinct bytes_eq (held ++ l)) (sym (append-nil front)) so
+distinct_after held front (u ∷ used) [] apart new so = subst (λ (l : List (List ℕ)). IsDistinct bytes_eq (held ++ l)) (sym (append-nil front)) so
 distinct_after held front (u ∷ used) (n ∷ names) apart new so =
     let add = new_names held u n in
     subst (λ (l : List (List ℕ)). IsDistinct bytes_eq (held ++ l)) (append_assoc front add (fresh_of held used names))
     (distinct_after held (front ++ add) used names apart.1 (new_by (u && is_none (place_of n held)) front n names apart.0 new.1) (with_new held front n u (place_of n held) refl new.0 so))
 
-all_new : (names : List (List ℕ)) → AreNew [] names
-all_new [] = tt
-all_new (n ∷ names) = (refl, all_new names)
-
 pub names_apart : (held : List (List ℕ)) (used : List Bool) (names : List (List ℕ)) → IsDistinct bytes_eq held → IsDistinct bytes_eq names → IsDistinct bytes_eq (held ++ fresh_of held used names)
-names_apart held used names held_apart apart = distinct_after held [] used names apart (all_new names) (subst (IsDistinct bytes_eq) (sym (nothing held)) held_apart)
+names_apart held used names held_apart apart = distinct_after held [] used names apart (all_new names) (subst (IsDistinct bytes_eq) (sym (append-nil held)) held_apart)
 
 -- ---- the profiles are within the numbers and the epochs
 

@@ -2,7 +2,6 @@
 use Rattle.std.proofs.Common.{arith, ◌≡◌, ℕ, ◌≤◌, ◌&&◌, Bool, true, false, cond, eqb, List, [], ◌∷◌, ◌++◌, Option, None, Some, length, refl, sym, ap, ◌∙◌, subst}
 use Rattle.std.specs.Prelude.{is_some, slice_index_or}
 use Rattle.std.specs.Map.{lookup}
-use Rattle.std.proofs.lemmas.Bool.{eqb-true}
 use Rattle.store_io.specs.Files.{Files}
 use Rattle.sample_key.specs.declared.events.Event.{Event}
 use Rattle.sample_key.specs.Events.{code_of, event_of_code}
@@ -29,10 +28,10 @@ use Rattle.profile_merge.specs.Faults.{held_by}
 use Rattle.profile_merge.specs.Numbering.{fresh_of, numbers_of}
 use Rattle.profile_merge.specs.Renewing.{Parts, ArePartsOf, IsRenewed, AreRenewed, known_file, unknown_file, known_files, unknown_files}
 use Rattle.profile_merge.proofs.Adding.{Numbering, found_adds, none_adds, fresh_selected, number_stands, gathered_found, marked, not_gathered}
-use Rattle.profile_merge.proofs.Named.{coded}
+use Rattle.profile_merge.proofs.Named.{coded, no_event}
 use Rattle.profile_merge.proofs.Names.{name_there}
 use Rattle.profile_merge.proofs.Numbers.{place_front}
-use Rattle.profile_merge.proofs.OwnerOrder.{same_equal, event_back}
+use Rattle.profile_merge.proofs.OwnerOrder.{same_equal}
 
 -- ---- the rows of a changed profile
 
@@ -73,16 +72,6 @@ unknown_rows_in [] e v before = refl
 unknown_rows_in (one ∷ all) e v before = unknown_step one.owner one.profile (unknown_files all) (rows_in all (Unknown e v)) e v before (unknown_rows_in all e v before)
 
 -- no changed profile is of another code
-no_event : (event : ℕ) (v : Event) → event_of_code event ≡ None → eqb event (code_of v) ≡ false
-no_event event v none = by (eqb event (code_of v)) refl
-  where
-    by : (b : Bool) → eqb event (code_of v) ≡ b → b ≡ false
-    by false is = refl
-    by true is =
-        let same : event ≡ code_of v = eqb-true event (code_of v) is in
-        let found : None ≡ Some v = sym none ∙ ap event_of_code same ∙ event_back v in
-        absurd cc
-
 and_false : (a b : Bool) → b ≡ false → (a && b) ≡ false
 and_false true b is = is
 and_false false b is = refl
@@ -152,6 +141,14 @@ grows added sums before old rows is same grown =
     subst (λ (o : Option (List ProfileRow)). IsGrown added o (Some rows)) (sym is)
     (rows, refl, record { are_rows = grown.are_rows; counts = λ offset. let sum = grown.counts offset in let add = same offset in omega (arith, sum, add) })
 
+-- what a profile held is what the name had that has its image's number
+pub held_before : (h : Head) (files : Files) (more : List (List ℕ)) (e : ℕ) (name : List ℕ) (image : ℕ) (v : Event) → is_in_range h ≡ true → length h.names ≤ 4096 → place_of name (h.names ++ more) ≡ Some image → (o : Option ℕ) → place_of name h.names ≡ o
+    → at_image o (λ i. known_at files (known_row h.known e i (code_of v))) ≡ held_by h files (Known e image v)
+held_before h files more e name image v range few place None none = sym (ap (known_at files) (no_row h e image (code_of v) (bounded h range few) (place_new name h.names more image none place)))
+held_before h files more e name image v range few place (Some i) here =
+    let same : i ≡ image = place_kept name h.names more i image here place in
+    ap (λ (k : ℕ). known_at files (known_row h.known e k (code_of v))) same
+
 module _ (g : Collected) (names : List (List ℕ)) (h : Head) (used : List Bool) (n : Numbering g names h.names used) (parts : Parts) (are : ArePartsOf (numbers_of h.names (length h.names) used names) g parts)
     (range : is_in_range h ≡ true) (few : length h.names ≤ 4096) (files : Files) (all : List Renewed) (renewed : AreRenewed g h files parts all)
     (rise : (e : ℕ) (name : List ℕ) (event : ℕ) → IsProfile ((database_of h files).known e name event)) (rise_unknown : (e event : ℕ) → IsProfile ((database_of h files).unknown e event)) where
@@ -160,14 +157,6 @@ module _ (g : Collected) (names : List (List ℕ)) (h : Head) (used : List Bool)
 
   abbrev adds : Additions
   adds = additions_in names g
-
-  -- what a name had before
-  before_at : (e : ℕ) (name : List ℕ) (image : ℕ) (v : Event) → place_of name names_after ≡ Some image → (o : Option ℕ) → place_of name h.names ≡ o
-      → at_image o (λ i. known_at files (known_row h.known e i (code_of v))) ≡ held_by h files (Known e image v)
-  before_at e name image v place None none = sym (ap (known_at files) (no_row h e image (code_of v) (bounded h range few) (place_new name h.names (fresh_of h.names used names) image none place)))
-  before_at e name image v place (Some i) here =
-      let same : i ≡ image = place_kept name h.names (fresh_of h.names used names) i image here place in
-      ap (λ (k : ℕ). known_at files (known_row h.known e k (code_of v))) same
 
   by_part : (e : ℕ) (name : List ℕ) (event image : ℕ) (v : Event) → place_of name names_after ≡ Some image → event ≡ code_of v → (o : Option Owner) → lookup (same_owner (Known e image v)) parts ≡ o
       → IsGrown (adds.known e name event) ((database_of h files).known e name event) (known_or (known_in (known_files all) e image event) ((database_of h files).known e name event))
@@ -187,7 +176,7 @@ module _ (g : Collected) (names : List (List ℕ)) (h : Head) (used : List Bool)
       let changed : known_or (known_in (known_files all) e image event) ((database_of h files).known e name event) ≡ Some rows.0 =
       ap (λ (c : ℕ). known_or (known_in (known_files all) e image c) ((database_of h files).known e name event)) code ∙ known_rows_in all e image v ((database_of h files).known e name event)
       ∙ ap (λ (o : Option (List ProfileRow)). or_rows o ((database_of h files).known e name event)) rows.1 in
-      let held : (database_of h files).known e name event ≡ Some rows.2.0 = ap (λ (c : ℕ). (database_of h files).known e name c) code ∙ before_at e name image v place (place_of name h.names) refl ∙ rows.2.1 in
+      let held : (database_of h files).known e name event ≡ Some rows.2.0 = ap (λ (c : ℕ). (database_of h files).known e name c) code ∙ held_before h files (fresh_of h.names used names) e name image v range few place (place_of name h.names) refl ∙ rows.2.1 in
       subst (IsGrown (adds.known e name event) ((database_of h files).known e name event)) (sym changed) (grows (adds.known e name event) (counts_in g p) ((database_of h files).known e name event) rows.2.0 rows.0 held same rows.2.2)
 
   no_addition : (e event offset : ℕ) (o : Option ℕ) (w : Option Event) → w ≡ None → known_by g e offset o w ≡ 0

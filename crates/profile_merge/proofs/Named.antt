@@ -99,7 +99,7 @@ unnamed_entry images name event offset c (Some p) apart place (inl none) = ap (�
 unnamed_entry images name event offset c (Some p) apart place (inr within) =
     rw (name_test name images p.image apart within None place) refl
 
-no_event : (event : ℕ) (v : Event) → event_of_code event ≡ None → (event == code_of v) ≡ false
+pub no_event : (event : ℕ) (v : Event) → event_of_code event ≡ None → (event == code_of v) ≡ false
 no_event event v none = by (event == code_of v) refl
   where
     by : (b : Bool) → (event == code_of v) ≡ b → b ≡ false

@@ -3,7 +3,7 @@ use Rattle.std.proofs.Common.{arith, ◌≡◌, inl, inr, ℕ, ◌+◌, ◌<◌,
 use Rattle.std.specs.Prelude.{find, is_some}
 use Rattle.std.specs.List.{list_any}
 use Rattle.std.specs.Map.{lookup, keys_of}
-use Rattle.std.proofs.lemmas.Bool.{eqb-true}
+use Rattle.std.proofs.lemmas.Bool.{and_parts, eqb-true}
 use Rattle.sample_key.specs.declared.events.Event.{Event}
 use Rattle.sample_key.specs.Events.{code_of, event_of_code}
 use Rattle.image_catalog.specs.Images.{place_of}
@@ -77,10 +77,6 @@ find_holds : {X : Type 0} (p : X → Bool) (xs : List X) (y : X) → find p xs �
 find_holds p [] y found = absurd cc
 find_holds p (x ∷ xs) y found = find_by (p x) p x y (find p xs) refl found (λ later. find_holds p xs y later)
 
-and_both : (a b : Bool) → (a && b) ≡ true → (a ≡ true) × (b ≡ true)
-and_both true b is = (refl, is)
-and_both false b is = absurd cc
-
 row_same : {e f i j v w g : ℕ} → e ≡ f → i ≡ j → v ≡ w → known_written e i v g ≡ known_written f j w g
 row_same a b c = cc
 
@@ -90,14 +86,14 @@ unknown_same_row a b = cc
 known_row_is : (g e i v : ℕ) (us : List KnownUpdate) (u : KnownUpdate) → known_in us e i v ≡ Some u → known_row_of g u ≡ known_written e i v g
 known_row_is g e i v us u found =
     let holds = find_holds (λ (k : KnownUpdate). known_same (known_place e i v) (known_row_of 0 k)) us u found in
-    let last = and_both (eqb e u.epoch && eqb i u.image) (eqb v u.event) holds in
-    let first = and_both (eqb e u.epoch) (eqb i u.image) last.0 in
+    let last = and_parts (eqb e u.epoch && eqb i u.image) (eqb v u.event) holds in
+    let first = and_parts (eqb e u.epoch) (eqb i u.image) last.0 in
     sym (row_same (eqb-true e u.epoch first.0) (eqb-true i u.image first.1) (eqb-true v u.event last.1))
 
 unknown_row_is : (g e v : ℕ) (us : List UnknownUpdate) (u : UnknownUpdate) → unknown_in us e v ≡ Some u → unknown_row_of g u ≡ unknown_written e v g
 unknown_row_is g e v us u found =
     let holds = find_holds (λ (k : UnknownUpdate). unknown_same (unknown_place e v) (unknown_row_of 0 k)) us u found in
-    let both = and_both (eqb e u.epoch) (eqb v u.event) holds in
+    let both = and_parts (eqb e u.epoch) (eqb v u.event) holds in
     sym (unknown_same_row (eqb-true e u.epoch both.0) (eqb-true v u.event both.1))
 
 module _ (g : Collected) (names : List (List ℕ)) (h : Head) (used : List Bool) (n : Numbering g names h.names used) (parts : Parts) (are : ArePartsOf (numbers_of h.names (length h.names) used names) g parts)

@@ -4,9 +4,9 @@ use Rattle.std.specs.Prelude.{filter}
 use Rattle.std.specs.List.{IsDistinct}
 use Rattle.std.specs.Str.{bytes_eq}
 use Rattle.std.proofs.lemmas.Cmp.{nat_list_eq_equiv}
+use Rattle.std.proofs.lemmas.List.{append-nil}
 use Rattle.std.proofs.lemmas.Map.Keys.{IsDistinct-push}
 use Rattle.store_io.specs.Files.{Files}
-use Rattle.sample_key.specs.declared.events.Event.{Event}
 use Rattle.sample_key.specs.Events.{code_of}
 use Rattle.image_catalog.specs.Images.{place_of, AreImages}
 use Rattle.trace_model.specs.Recording.{name_at}
@@ -14,28 +14,21 @@ use Rattle.database_model.specs.declared.profiles.ProfileRow.{ProfileRow}
 use Rattle.database_model.specs.Runs.{Segment}
 use Rattle.database_state.specs.Heads.{Head, is_in_range}
 use Rattle.database_state.specs.Database.{Database}
-use Rattle.database_state.specs.Rows.{known_row}
-use Rattle.database_state.specs.Standing.{known_at, database_of}
-use Rattle.database_state.specs.Updates.{at_image}
+use Rattle.database_state.specs.Standing.{database_of}
 use Rattle.database_state.specs.declared.faults.DbFault.{DbFault}
-use Rattle.epoch_store.proofs.Images.{place_kept, place_new}
-use Rattle.epoch_store.proofs.Sealed.{no_row}
-use Rattle.epoch_store.proofs.Stays.{bounded}
 use Rattle.growth_model.specs.Additions.{Additions}
 use Rattle.growth_model.specs.Growth.{IsCounted, IsGrown, IsNewName, Grows}
 use Rattle.growth_model.proofs.Determined.{selected_once}
 use Rattle.profile_merge.specs.declared.owners.Owner.{Owner}
 use Rattle.profile_merge.specs.declared.owners.Owner.TheVariants.{Known, Unknown}
 use Rattle.profile_merge.specs.Faults.{added_to, IsChanged, held_by, HasRoom, IsFirstWrong, IsFirstFault}
+use Rattle.profile_merge.proofs.Adding.{all_new}
 use Rattle.profile_merge.proofs.Fitted.{none_any}
+use Rattle.profile_merge.proofs.GrownBy.{held_before}
 use Rattle.profile_merge.proofs.FirstWrong.{no_wrong}
 use Rattle.profile_merge.proofs.Names.{own_place}
 use Rattle.profile_merge.proofs.Numbers.{after, place_behind, AreNew, still_new}
 use Rattle.profile_merge.proofs.Rows.{count_most}
-
-nothing : (l : List (List ℕ)) → l ++ [] ≡ l
-nothing [] = refl
-nothing (x ∷ l) = ap (λ (m : List (List ℕ)). x ∷ m) (nothing l)
 
 -- ---- held names and chosen ones are apart
 
@@ -51,23 +44,10 @@ chosen_by true held front rest n apart new first without with =
 chosen_apart : (held front : List (List ℕ)) (test : List ℕ → Bool) (names : List (List ℕ)) → ((x : List ℕ) → test x ≡ true → place_of x held ≡ None) → IsDistinct bytes_eq names → AreNew front names → IsDistinct bytes_eq (held ++ front)
     → IsDistinct bytes_eq (held ++ (front ++ filter test names))
 unfolding IsDistinct
-chosen_apart held front test [] new apart first so = subst (λ (l : List (List ℕ)). IsDistinct bytes_eq (held ++ l)) (sym (nothing front)) so
+chosen_apart held front test [] new apart first so = subst (λ (l : List (List ℕ)). IsDistinct bytes_eq (held ++ l)) (sym (append-nil front)) so
 chosen_apart held front test (n ∷ names) new apart first so = chosen_by (test n) held front (filter test names) n so (new n) first.0
     (λ less. chosen_apart held front test names new apart.1 first.1 less)
     (λ more. chosen_apart held (front ++ n ∷ []) test names new apart.1 (still_new front n names apart.0 first.1) more)
-
-all_new : (names : List (List ℕ)) → AreNew [] names
-all_new [] = tt
-all_new (n ∷ names) = (refl, all_new names)
-
--- ---- what a profile held before
-
-before_at : (h : Head) (files : Files) (more : List (List ℕ)) (e : ℕ) (name : List ℕ) (image : ℕ) (v : Event) → is_in_range h ≡ true → length h.names ≤ 4096 → place_of name (h.names ++ more) ≡ Some image → (o : Option ℕ) → place_of name h.names ≡ o
-    → at_image o (λ i. known_at files (known_row h.known e i (code_of v))) ≡ held_by h files (Known e image v)
-before_at h files more e name image v range few place None none = sym (ap (known_at files) (no_row h e image (code_of v) (bounded h range few) (place_new name h.names more image none place)))
-before_at h files more e name image v range few place (Some i) here =
-    let same : i ≡ image = place_kept name h.names more i image here place in
-    ap (λ (k : ℕ). known_at files (known_row h.known e k (code_of v))) same
 
 -- ---- a profile that has grown has room
 
@@ -81,12 +61,12 @@ module _ (images : List (List ℕ)) (added : Additions) (epoch : ℕ) (segment :
 
   all_apart : IsDistinct bytes_eq names_after
   all_apart = subst (λ (l : List (List ℕ)). IsDistinct bytes_eq (h.names ++ l)) (sym grown.chosen.list)
-      (chosen_apart h.names [] grown.chosen.test images (λ x is. (grown.chosen.holds x is).fresh) apart (all_new images) (subst (IsDistinct bytes_eq) (sym (nothing h.names)) held.apart))
+      (chosen_apart h.names [] grown.chosen.test images (λ x is. (grown.chosen.holds x is).fresh) apart (all_new images) (subst (IsDistinct bytes_eq) (sym (append-nil h.names)) held.apart))
 
   room : (owner : Owner) → IsChanged added names_after owner → HasRoom (added_to added names_after owner) (held_by h files owner)
   room (Known e i v) changed =
       let place : place_of (name_at names_after i) names_after ≡ Some i = own_place names_after i all_apart changed.numbered in
-      let before : (database_of h files).known e (name_at names_after i) (code_of v) ≡ held_by h files (Known e i v) = before_at h files grown.more e (name_at names_after i) i v range held.few place (place_of (name_at names_after i) h.names) refl in
+      let before : (database_of h files).known e (name_at names_after i) (code_of v) ≡ held_by h files (Known e i v) = held_before h files grown.more e (name_at names_after i) i v range held.few place (place_of (name_at names_after i) h.names) refl in
       subst (HasRoom (added_to added names_after (Known e i v))) before
       (grown_room (added_to added names_after (Known e i v)) ((database_of h files).known e (name_at names_after i) (code_of v)) (new.known e (name_at names_after i) (code_of v)) changed.counted (grown.known e (name_at names_after i) (code_of v)))
   room (Unknown e v) changed = grown_room (added_to added names_after (Unknown e v)) ((database_of h files).unknown e (code_of v)) (new.unknown e (code_of v)) changed.counted (grown.unknown e (code_of v))
