@@ -50,7 +50,8 @@ numbers_of held next (used ∷ more) (name ∷ names) =
 abbrev pub IsImagesFault : List (List ℕ) → List (List ℕ) → DbFault → Type 0
 IsImagesFault held fresh StoreFault = ⊥
 IsImagesFault held fresh (Bad file) = ⊥
-IsImagesFault held fresh (Full what is_held added) = (what ≡ full.Images) × (is_held ≡ 4096) × (added ≡ 1)
+IsImagesFault held fresh (Full what is_held added) =
+    (what ≡ full.Images) × (is_held ≡ 4096) × (added ≡ 1)
     × (4096 < length held + length fresh)
 IsImagesFault held fresh Memory = Unit {0}
 

@@ -49,7 +49,8 @@ gathered_at collected owner offset = sum_at (counts_in collected owner) offset
 abbrev pub PutsCount : Collected → Collected → Owner → ℕ → ℕ → Type 0
 PutsCount before after owner at count = (other : Owner) (offset : ℕ) →
     gathered_at after other offset
-    ≡ gathered_at before other offset + (if same_owner owner other && at == offset then count else 0)
+    ≡ gathered_at before other offset
+    + (if same_owner owner other && at == offset then count else 0)
 
 -- the same was gathered
 abbrev pub HasSame : Collected → Collected → Type 0

@@ -76,7 +76,8 @@ fn put_sum(
     ensures within { IfOk result (λ next. next ≤ length rows.now) }
     ensures rest { IfOk result (λ next. drop next rows.now ≡ taken offset (drop at rows.now)) }
     ensures room { OnOk result (first_count offset (drop at rows.now) + count ≤ 2 ^ 48) }
-    ensures full { IfErr result (IsFull owner offset (first_count offset (drop at rows.now)) count) }
+    ensures full { IfErr result
+        (IsFull owner offset (first_count offset (drop at rows.now)) count) }
 {
     let held = held_at(rows, at, offset);
     if count > u128::from(MOST_ROW_COUNT - held) {

@@ -60,7 +60,8 @@ fn number_one(
     requires few { length held.now + length fresh.old.items ≤ 4096 }
     ensures number { IfOk result (λ number.
         number ≡ number_at held.now (length held.now + length fresh.old.items) used name.now) }
-    ensures fresh { OnOk result (fresh.new.items ≡ fresh.old.items ++ new_names held.now used name.now) }
+    ensures fresh { OnOk result (fresh.new.items
+        ≡ fresh.old.items ++ new_names held.now used name.now) }
     ensures few { OnOk result (length held.now + length fresh.new.items ≤ 4096) }
     ensures full { IfErr result (IsImagesFault held.now
         (fresh.old.items ++ new_names held.now used name.now)) }
