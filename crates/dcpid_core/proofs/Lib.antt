@@ -1,6 +1,7 @@
 -- The lemmas behind the answers.
 pub mod PartStored
 pub mod Outcomes
+pub mod Current
 pub mod Bells
 pub mod Rungs
 pub mod Images

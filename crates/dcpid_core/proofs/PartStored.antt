@@ -128,7 +128,7 @@ pub part_not_committed : {D : Type 0} (files : D → Option Files) (faults momen
   → HasFailed files faults moment left part fault old new
 part_not_committed files faults moment left part u fault old mid new made room stays count leaves present = record {
   count = counted fault made.count count;
-  cause = λ f told. caused fault room;
+  cause = λ f told. caused fault room f;
   first = λ f other told stops. absurd (made.sound f other told stops);
   reads = λ before. only_read fault before stays room;
   any_moment = part_any_moment new made leaves;
@@ -140,17 +140,17 @@ part_not_committed files faults moment left part u fault old mid new made room s
     counted (Bad file) same h = absurd h
     counted (Full what held added) same h = h ∙ same
     counted Memory same h = h ∙ same
-    caused : (fault : DbFault) → IsRoomFault (row_count part.head) (rows_added u part.head) fault → {f : Files} → HasCause part f fault
-    caused StoreFault h = tt
-    caused (Bad file) h = absurd h
-    caused (Full what held added) h = inr (h.0, record {
+    caused : (fault : DbFault) → IsRoomFault (row_count part.head) (rows_added u part.head) fault → (f : Files) → HasCause part f fault
+    caused StoreFault h f = tt
+    caused (Bad file) h f = absurd h
+    caused (Full what held added) h f = inr (h.0, record {
       next = head_after u part.head;
       grows = made.head;
       is_held = h.1;
       total = ap (λ n. n + added) h.1 ∙ (ap (λ n. row_count part.head + n) h.2 ∙ sym (rows_after part.head u made.range made.fits));
       over = subst (λ n. 65536 < n) (sym (ap (λ n. n + added) h.1 ∙ ap (λ n. row_count part.head + n) h.2)) h.3;
     })
-    caused Memory h = tt
+    caused Memory h f = tt
     only_read : (fault : DbFault) → is_found_before fault ≡ true → StaysAt mid new fault → IsRoomFault (row_count part.head) (rows_added u part.head) fault → OnlyReads (files old) (files new) (moment old) (moment new) (left old) (left new)
     only_read StoreFault before stays room = absurd (cc)
     only_read (Bad file) before stays room = absurd room

@@ -1,7 +1,8 @@
 //! What the daemon took of a processor, in short: enough to tell whether its flush is complete.
 
-ghost use Rattle.std.specs.Prelude.{◌≡◌};
-ghost use Rattle.dcpid_core.specs.Flushes.{flush_answered, flush_took, is_complete, no_flush};
+ghost use Rattle.std.specs.Prelude.{◌≡◌, ◌≤◌};
+ghost use Rattle.sample_key.specs.declared.limits.TheConstants.{MOST_SAMPLES};
+ghost use Rattle.dcpid_core.specs.Flushes.{IsCounter, flush_took, is_complete, no_flush};
 
 use sample_key::Note;
 
@@ -35,27 +36,23 @@ impl Flush {
         }
     }
 
-    // A batch of this cell was taken, while this value is asked for or asked for next.
+    // A batch of this cell was taken, while this value is asked for or is the next to be.
     pub(crate) fn take(&mut self, value: u64, cell: u8, note: &Note)
-        ensures { self.new ≡ flush_took value self.old cell note.now }
+        ensures took { self.new ≡ flush_took value self.old cell note.now }
+        ensures counter { IsCounter note.now }
+        ensures few { note.now.upto ≤ MOST_SAMPLES }
     {
+        let answers = note.answers;
+        let sent0 = note.sent0;
+        let sent1 = note.sent1;
         if cell == 0 {
             self.first = self.first.saturating_add(1);
         } else if cell == 1 {
             self.second = self.second.saturating_add(1);
-        } else {
-            self.answer(value, note);
-        }
-    }
-
-    // A table batch was taken.
-    fn answer(&mut self, value: u64, note: &Note)
-        ensures { self.new ≡ flush_answered value self.old note.now }
-    {
-        if note.answers == value && self.answers != value {
+        } else if answers == value && self.answers != value {
             self.answers = value;
-            self.sent0 = note.sent0;
-            self.sent1 = note.sent1;
+            self.sent0 = sent0;
+            self.sent1 = sent1;
         }
     }
 

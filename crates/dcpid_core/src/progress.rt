@@ -1,6 +1,7 @@
 //! Where a daemon stands, and its steps: polls first, then advances, then the end. Each step of an advance is one of the run's
 //! definitions (`run_model`), with the books and the store beside it.
 ghost use Rattle.std.specs.Prelude.{◌≡◌, ◌+◌, ◌^◌, ◌<◌, ◌≤◌, ◌++◌, ◌∷◌, ◌⊎◌, [], None, Some, true, false, if◌then◌else◌, is_none, ◌&&◌, length, map, slice_get, IfOk, IfErr, OnOk, OnErr};
+ghost use Rattle.sample_key.specs.declared.limits.TheConstants.{MOST_SAMPLES};
 ghost use Rattle.trace_model.specs.Parts.{begins_epoch, ends_part};
 ghost use Rattle.trace_model.specs.Streams.{records_in};
 ghost use Rattle.trace_model.specs.Traces.{recording_of};
@@ -12,7 +13,7 @@ ghost use Rattle.epoch_store.specs.Databases.{failed_of, head_of};
 ghost use Rattle.run_model.specs.declared.advances.Advanced.TheVariants.{Moved, Opened};
 ghost use Rattle.run_model.specs.Books.{AsksInNeed};
 ghost use Rattle.run_model.specs.Daemon.{begin, drain_of, flush_before, go_on, in_force, move, settle};
-ghost use Rattle.dcpid_core.specs.Flushes.{first_incomplete};
+ghost use Rattle.dcpid_core.specs.Flushes.{IsCounter, first_incomplete};
 ghost use Rattle.dcpid_core.specs.Collection.{AreFitting, IsFitting, new_collection, rang_if, views};
 ghost use Rattle.dcpid_core.specs.Polling.{Answers, BufferHome, TableHome, Takes, TookBuffer, TookTable};
 ghost use Rattle.dcpid_core.specs.Storing.{HasFailed, IsCommitted};
@@ -234,7 +235,7 @@ impl Progress {
         ensures takes { Takes cpu cell (record { note = note; entries = B.entries body.now })
             (collection_of task.now self.old) result (collection_of task.now self.new) }
         ensures sound { IsSound task.now self.new }
-        ensures counter { (note.sent0 < 2 ^ 64) × (note.sent1 < 2 ^ 64) }
+        ensures counter { IsCounter note }
     {
         let value = flush_before(self.applied);
         self.flushes[cpu as usize].take(value, cell, &note);
@@ -261,7 +262,7 @@ impl Progress {
         requires task { IsTask task.now }
         requires current { IsCurrent task.now self.old.applied self.old.epoch self.old }
         requires applied { self.old.applied ≤ length (records_of task.now) }
-        requires entries { length (B.entries body.now) ≤ note.upto }
+        requires entries { length (B.entries body.now) ≤ MOST_SAMPLES }
         ensures only { self.new ≡ record self.old { gathered = self.new.gathered; noted = self.new.noted } }
         ensures noted { OnOk result (self.new.noted.items ≡ self.old.noted.items
             ++ drain_of (records_of task.now) (state_of self.old)
@@ -522,13 +523,54 @@ impl Progress {
             result (collection_of task.now self.new) store.new }
         ensures current { OnOk result (IsCurrent task.now (self.old.applied + 1)
             (epoch_next self.old.epoch notice.now) self.new) }
+        ensures only { self.new ≡ record self.old {
+            db = self.new.db;
+            map = self.new.map;
+            gathered = self.new.gathered;
+            part = self.new.part;
+            settled = self.new.settled;
+            noted = self.new.noted;
+        } }
         ensures origin { D.origin store.new ≡ D.origin store.old }
     {
         self.map.apply(notice)?;
         if ends_part(notice) {
-            let epoch = self.epoch + epochs_begun(notice);
-            self.commit_part(alloc, task, store, epoch, false, Vec::new(alloc))?;
+            self.end_part(alloc, task, notice, store)
+        } else {
+            Ok(())
         }
+    }
+
+    // The part that this record ends is committed, in the epoch that the record leaves.
+    fn end_part<D: Store>(
+        &mut self,
+        alloc: Global,
+        task: &Task,
+        notice: &Record,
+        store: &mut D,
+    ) -> Result<(), DbFault>
+        requires task { IsTask task.now }
+        requires ready { IsReady task.now (epoch_next self.old.epoch notice.now) self.old }
+        requires epoch { self.old.epoch + 1 < 2 ^ 32 }
+        requires part { self.old.part ≤ MOST_PARTS }
+        ensures books { KeepsBooks D.files D.faults D.moment D.left_since true
+            (epoch_next self.old.epoch notice.now) (collection_of task.now self.old) store.old
+            result (collection_of task.now self.new) store.new }
+        ensures settled { OnOk result (IsSettled task.now
+            (epoch_next self.old.epoch notice.now) self.new) }
+        ensures part { OnOk result (self.new.part ≡ self.old.part + 1) }
+        ensures noted { OnOk result (self.new.noted.items ≡ []) }
+        ensures only { self.new ≡ record self.old {
+            db = self.new.db;
+            gathered = self.new.gathered;
+            part = self.new.part;
+            settled = self.new.settled;
+            noted = self.new.noted;
+        } }
+        ensures origin { D.origin store.new ≡ D.origin store.old }
+    {
+        let epoch = self.epoch + epochs_begun(notice);
+        self.commit_part(alloc, task, store, epoch, false, Vec::new(alloc))?;
         Ok(())
     }
 
