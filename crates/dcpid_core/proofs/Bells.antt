@@ -1,7 +1,8 @@
 -- The bells: what was rung so far is not above what the daemon rings next, and all sides are rung in turn.
-use Rattle.std.proofs.Common.{arith, ◌≡◌, ℕ, zero, suc, ◌+◌, ◌*◌, ◌<◌, ◌≤◌, refl, sym, ◌∙◌, ap, subst, Bool, true, false, if◌then◌else◌, List, [], ◌∷◌, ◌++◌, length, map, take, drop, get_or, set, append_nil, add-one}
+use Rattle.std.proofs.Common.{arith, ◌≡◌, ℕ, zero, suc, ◌+◌, ◌*◌, ◌<◌, ◌≤◌, refl, sym, ◌∙◌, ap, subst, Bool, true, false, if◌then◌else◌, List, [], ◌∷◌, ◌++◌, length, map, take, drop, get_or, set, append-nil, add-one}
 use Rattle.std.specs.List.{AllByRecursion}
-use Rattle.std.proofs.lemmas.List.{length-take}
+use Rattle.std.proofs.lemmas.List.{length-map, length-take, map-set}
+use Rattle.std.proofs.Math.ListN.{get_or-map}
 use Rattle.sample_key.specs.declared.losses.Pace.{Pace}
 use Rattle.trace_model.specs.Streams.{records_in}
 use Rattle.trace_model.specs.declared.notices.Record.{Record}
@@ -36,9 +37,10 @@ bell_below pace records daemon = by daemon.asking
   where
     before : List ℕ
     before = rungs_before pace 0 (take daemon.applied records)
+
     by : (asking : Bool) → last_from 0 (before ++ (if asking then flush_before daemon.applied ∷ [] else [])) ≤ flush_before daemon.applied
     by true = subst (λ n. n ≤ flush_before daemon.applied) (sym (last_more 0 before (flush_before daemon.applied ∷ []))) (omega arith)
-    by false = subst (λ xs. last_from 0 xs ≤ flush_before daemon.applied) (sym append_nil) (omega (arith, last_before pace 0 (take daemon.applied records) 0 (omega arith), length-take daemon.applied records))
+    by false = subst (λ xs. last_from 0 xs ≤ flush_before daemon.applied) (sym (append-nil before)) (omega (arith, last_before pace 0 (take daemon.applied records) 0 (omega arith), length-take daemon.applied records))
 
 -- so it is on each side that fits
 pub all_below : (daemon : Collection) (number value : ℕ) (sides : List Plain) → flush_before daemon.state.applied ≤ value → FitFrom daemon number sides → AllByRecursion (λ side. rung_of side.far.rungs ≤ value) sides
@@ -61,10 +63,24 @@ changed_next change (x ∷ xs) zero d lt = refl
 changed_next change (x ∷ xs) (suc i) d lt = ap (λ ys. change x ∷ ys) (changed_next change xs i d (omega (arith, lt)))
 
 pub next_changed : {A : Type 0} (change : A → A) (xs : List A) (i : ℕ) (d : A) → i < length xs → set (map change (take i xs) ++ drop i xs) i (change (get_or xs i d)) ≡ map change (take (i + 1) xs) ++ drop (i + 1) xs
-next_changed change xs i d lt = changed_next change xs i d lt ∙ ap (λ n. map change (take n xs) ++ drop n xs) (sym add-one)
+next_changed change xs i d lt = changed_next change xs i d lt ∙ ap (λ n. map change (take n xs) ++ drop n xs) (sym (add-one i))
 
 -- what holds of each holds of one
 pub one_of_all : {A : Type 0} (P : A → Type 0) (xs : List A) (i : ℕ) (d : A) → i < length xs → AllByRecursion P xs → P (get_or xs i d)
 one_of_all P [] i d lt all = absurd (omega (arith, lt))
 one_of_all P (x ∷ xs) zero d lt all = all.0
 one_of_all P (x ∷ xs) (suc i) d lt all = one_of_all P xs i d (omega (arith, lt)) all.1
+
+-- the next of the things seen so, of which those before it were changed
+seen_next : {S A : Type 0} (view : S → A) (change : A → A) (old now : List S) (i : ℕ) (d : S) → map view now ≡ map change (take i (map view old)) ++ drop i (map view old) → view (get_or now i d) ≡ get_or (map view old) i (view d)
+seen_next view change old now i d is = sym (get_or-map view now i d) ∙ ap (λ xs. get_or xs i (view d)) is ∙ next_is change (map view old) i (view d)
+
+pub next_holds : {S A : Type 0} (view : S → A) (change : A → A) (P : A → Type 0) (old now : List S) (i : ℕ) (d : S) → i < length old → map view now ≡ map change (take i (map view old)) ++ drop i (map view old) → AllByRecursion P (map view old) → P (view (get_or now i d))
+next_holds view change P old now i d lt is all = subst P (sym (seen_next view change old now i d is)) (one_of_all P (map view old) i (view d) (omega (arith, lt, length-map old view)) all)
+
+pub next_set : {S A : Type 0} (view : S → A) (change : A → A) (old now : List S) (i : ℕ) (d new : S) → i < length old → map view now ≡ map change (take i (map view old)) ++ drop i (map view old) → view new ≡ change (view (get_or now i d)) → map view (set now i new) ≡ map change (take (i + 1) (map view old)) ++ drop (i + 1) (map view old)
+next_set view change old now i d new lt is changed =
+    map-set view now i new
+    ∙ ap (λ xs. set xs i (view new)) is
+    ∙ ap (λ x. set (map change (take i (map view old)) ++ drop i (map view old)) i x) (changed ∙ ap change (seen_next view change old now i d is))
+    ∙ next_changed change (map view old) i (view d) (omega (arith, lt, length-map old view))

@@ -65,6 +65,7 @@ none_later value later (batch ∷ batches) lt all = by (batch.note.answers == la
   where
     differs : (a b : ℕ) → a < b → (a == b) ≡ false
     differs a b lt = grind (arith, common_steps)
+
     by : (t : Bool) → t ≡ false → answering later batches ≡ None → (if t then Some batch else answering later batches) ≡ None
     by true e none = absurd (cc)
     by false e none = none
@@ -114,7 +115,7 @@ took_buffer : (value cell : ℕ) (flush : Flush) (far : FarSide) (batch : Sent) 
 took_buffer value zero flush far batch le agrees = record {
   first = one_longer flush.first far.first.taken batch agrees.first;
   second = agrees.second;
-  answer = same_answer value flush _ (answering value far.third.taken) refl refl refl agrees.answer;
+  answer = same_answer value flush (record flush { first = one_more flush.first }) (answering value far.third.taken) refl refl refl agrees.answer;
   sent0 = agrees.sent0;
   sent1 = agrees.sent1;
   kept = agrees.kept;
@@ -123,7 +124,7 @@ took_buffer value zero flush far batch le agrees = record {
 took_buffer value (suc zero) flush far batch le agrees = record {
   first = agrees.first;
   second = one_longer flush.second far.second.taken batch agrees.second;
-  answer = same_answer value flush _ (answering value far.third.taken) refl refl refl agrees.answer;
+  answer = same_answer value flush (record flush { second = one_more flush.second }) (answering value far.third.taken) refl refl refl agrees.answer;
   sent0 = agrees.sent0;
   sent1 = agrees.sent1;
   kept = agrees.kept;
@@ -157,6 +158,7 @@ goes_on value later flush far lt agrees = record {
   where
     differs : (a b : ℕ) → a < b → not (a == b) ≡ true
     differs a b lt = grind (arith, common_steps)
+
     all_later : (taken : List Sent) → AllOf (λ batch. batch.note.answers ≤ value) taken → AllOf (λ batch. batch.note.answers ≤ later) taken
     all_later [] all = tt
     all_later (x ∷ xs) all = (omega (arith, all.0, lt), all_later xs all.1)

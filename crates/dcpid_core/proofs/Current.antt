@@ -1,6 +1,8 @@
 -- The books stay those of the records and the drains, from one record to the next.
-use Rattle.std.proofs.Common.{arith, ◌≡◌, ℕ, suc, get_or, ◌+◌, ◌<◌, ◌≤◌, ◌⊎◌, inl, inr, refl, sym, ◌∙◌, ap, subst, Bool, true, false, cond, if◌then◌else◌, List, [], ◌∷◌, ◌++◌, length, take, add-one, Option, Some, None}
-use Rattle.std.specs.Prelude.{slice_get}
+use Rattle.std.proofs.Common.{arith, Vec, ◌≡◌, ℕ, suc, get_or, ◌+◌, ◌<◌, ◌≤◌, ◌⊎◌, inl, inr, refl, sym, ◌∙◌, ap, subst, Bool, true, false, cond, if◌then◌else◌, List, [], ◌∷◌, ◌++◌, length, take, add-one, Option, Some, None, Ok, Err}
+use Rattle.std.specs.Prelude.{slice_get, is_some, OnOk}
+use Rattle.std.specs.declared.result.Result.{Result}
+use Rattle.std.specs.Global.{Global}
 use Rattle.std.specs.List.{All, count_by}
 use Rattle.std.proofs.lemmas.List.{length-map}
 use Rattle.std.proofs.lemmas.List.Elements.{All-push}
@@ -16,11 +18,15 @@ use Rattle.trace_model.specs.Parts.{begins_epoch, ends_part, part_of}
 use Rattle.trace_model.specs.declared.notices.Record.{Record}
 use Rattle.trace_model.specs.declared.notices.Record.TheVariants.{Scan, Load, Unload, Exec, Exit, Kernel, Drain, Merge, Epoch}
 use Rattle.load_map.specs.Maps.{Applies, StandsFor}
+use Rattle.load_map.specs.declared.maps.LoadMap.{LoadMap}
+use Rattle.run_model.specs.Books.{AsksInNeed}
+use Rattle.database_state.specs.declared.faults.DbFault.{DbFault}
+use Rattle.dcpid_core.specs.declared.flushes.Flush.{Flush}
 use Rattle.database_model.specs.Ranges.{IsDrained}
-use Rattle.epoch_store.specs.Databases.{head_of}
+use Rattle.epoch_store.specs.Databases.{failed_of, head_of}
 use Rattle.profile_merge.specs.Gathering.{EpochsAreUpTo, Gathers, ImagesAreIn, drained}
 use Rattle.profile_merge.specs.Sums.{Collected}
-use Rattle.dcpid_core.specs.Insides.{IsCurrent, IsTask, records_of}
+use Rattle.dcpid_core.specs.Insides.{IsCurrent, IsSound, IsTask, records_of}
 use Rattle.dcpid_core.specs.Booking.{IsReady, IsSettled, epoch_next}
 use Rattle.dcpid_core.specs.declared.progress.Task.{Task}
 use Rattle.dcpid_core.specs.declared.progress.Progress.{Progress}
@@ -56,7 +62,7 @@ part_next records applied notice there =
 -- the map after one record more
 map_next : (task : Task) (before after : Progress) (applied : ℕ) (notice : Record) → slice_get (records_of task) applied ≡ Some notice → StandsFor before.map (take applied (records_of task)) → Applies before.map notice after.map → StandsFor after.map (take (applied + 1) (records_of task))
 map_next task before after applied notice here stands applies =
-    subst (λ xs. StandsFor after.map xs) (sym (ap (λ n. take n (records_of task)) add-one ∙ (take_next (records_of task) applied notice here).0)) (applies (take applied (records_of task)) stands)
+    subst (λ xs. StandsFor after.map xs) (sym (ap (λ n. take n (records_of task)) (add-one applied) ∙ (take_next (records_of task) applied notice here).0)) (applies (take applied (records_of task)) stands)
 
 -- nothing is gathered for a later epoch
 epochs_later : (collected : Collected) (epoch later : ℕ) → epoch ≤ later → EpochsAreUpTo epoch collected → EpochsAreUpTo later collected
@@ -127,11 +133,11 @@ ready_now task progress applied epoch current = record {
 
 -- a batch that was noted
 pub current_noted : (task : Task) (before after : Progress) (applied epoch : ℕ) (batch : Sent) → IsTask task → applied ≤ length (records_of task) → length batch.entries ≤ MOST_SAMPLES → IsCurrent task applied epoch before
-  → after ≡ record before { gathered = after.gathered; noted = after.noted }
-  → after.noted.items ≡ before.noted.items ++ drained (records_of task) applied epoch batch ∷ []
-  → Gathers after.gathered task.trace.now.images.items (records_of task) (before.noted.items ++ drained (records_of task) applied epoch batch ∷ [])
-  → ImagesAreIn task.trace.now.images.items after.gathered → EpochsAreUpTo epoch after.gathered
-  → IsCurrent task applied epoch after
+    → after ≡ record before { gathered = after.gathered; noted = after.noted }
+    → after.noted.items ≡ before.noted.items ++ drained (records_of task) applied epoch batch ∷ []
+    → Gathers after.gathered task.trace.now.images.items (records_of task) (before.noted.items ++ drained (records_of task) applied epoch batch ∷ [])
+    → ImagesAreIn task.trace.now.images.items after.gathered → EpochsAreUpTo epoch after.gathered
+    → IsCurrent task applied epoch after
 current_noted task before after applied epoch batch is_task within few current only noted gathers images epochs =
     subst (λ p. IsCurrent task applied epoch p) (sym only) (record {
       mappings = current.mappings;
@@ -156,3 +162,145 @@ part_most records applied = sum_by-take-le (λ n. cond (ends_part n) 1 0) record
 -- the last epoch of a head
 pub epoch_most : (h : Head) → is_in_range h ≡ true → h.epoch ≤ 65536
 epoch_most h range = let r = ranges_of h range in omega (arith, r.epoch, r.count)
+
+-- before the first step
+pub sound_start : (task : Task) (progress : Progress) → progress.applied ≡ 0 → progress.asking ≡ false → length progress.flushes.items ≡ task.trace.now.cpus
+    → progress.epoch ≡ (head_of progress.db).epoch → is_in_range (head_of progress.db) ≡ true
+    → StandsFor progress.map [] → Gathers progress.gathered task.trace.now.images.items (records_of task) [] → ImagesAreIn task.trace.now.images.items progress.gathered → EpochsAreUpTo progress.epoch progress.gathered
+    → progress.noted.items ≡ [] → failed_of progress.db ≡ None → task.run ≡ (head_of progress.db).runs + 1 → progress.part ≡ 0 → IsSound task progress
+sound_start task progress applied asking flushes epoch range stands gathers images epochs noted works run part = record {
+  stands = record { within = omega (arith, applied); need = λ asks. absurd (never asks) };
+  flushes = flushes;
+  epochs = omega (arith, epoch, epoch_most (head_of progress.db) range);
+  current = λ e. record {
+    mappings = subst (λ n. StandsFor progress.map (take n (records_of task))) (sym applied) stands;
+    gathers = subst (λ ds. Gathers progress.gathered task.trace.now.images.items (records_of task) ds) (sym noted) gathers;
+    images = images;
+    epochs = epochs;
+    drains = subst (λ ds. All IsDrained ds) (sym noted) (λ k d lt. absurd (omega (arith, lt)));
+    works = works;
+    run = inr run;
+    epoch_is = epoch;
+    part = part ∙ sym (ap (λ n. part_of (records_of task) n) applied);
+  };
+}
+  where
+    never : progress.asking ≡ true → ⊥
+    never asks = cc
+
+-- one record further
+pub sound_stepped : (task : Task) (before mid after : Progress) (notice : Record) → IsTask task → IsSound task before → slice_get (records_of task) before.applied ≡ Some notice
+    → mid ≡ record before { db = mid.db; map = mid.map; gathered = mid.gathered; part = mid.part; settled = mid.settled; noted = mid.noted; failure = mid.failure }
+    → after ≡ record mid { applied = mid.applied + 1; asking = false; epoch = epoch_next mid.epoch notice }
+    → (mid.failure ≡ None → IsCurrent task (before.applied + 1) (epoch_next before.epoch notice) mid)
+    → IsSound task after
+sound_stepped task before mid after notice is_task sound there only is current = subst (λ p. IsSound task p) (sym is) (record {
+  stands = record { within = omega (arith, place, (take_next (records_of task) before.applied notice there).1); need = λ asks. absurd (cc) };
+  flushes = ap (λ p. length p.flushes.items) only ∙ sound.flushes;
+  epochs = omega (arith, place, era, sound.epochs, at_most (begins_epoch notice));
+  current = λ e. current_at (current e);
+})
+  where
+    place : mid.applied ≡ before.applied
+    place = ap (λ p. p.applied) only
+
+    era : mid.epoch ≡ before.epoch
+    era = ap (λ p. p.epoch) only
+
+    at_most : (b : Bool) → (if b then 1 else 0) ≤ 1
+    at_most true = omega arith
+    at_most false = omega arith
+
+    current_in : IsCurrent task (mid.applied + 1) (epoch_next mid.epoch notice) mid → IsCurrent task (mid.applied + 1) (epoch_next mid.epoch notice) (record mid { applied = mid.applied + 1; asking = false; epoch = epoch_next mid.epoch notice })
+    current_in c = record {
+      mappings = c.mappings;
+      gathers = c.gathers;
+      images = c.images;
+      epochs = c.epochs;
+      drains = c.drains;
+      works = c.works;
+      run = c.run;
+      epoch_is = c.epoch_is;
+      part = c.part;
+    }
+
+    current_at : IsCurrent task (before.applied + 1) (epoch_next before.epoch notice) mid → IsCurrent task (mid.applied + 1) (epoch_next mid.epoch notice) (record mid { applied = mid.applied + 1; asking = false; epoch = epoch_next mid.epoch notice })
+    current_at c = current_in (subst (λ n. IsCurrent task (n + 1) (epoch_next mid.epoch notice) mid) (sym place) (subst (λ n. IsCurrent task (before.applied + 1) (epoch_next n notice) mid) (sym era) c))
+
+-- ---- one field changed
+
+-- a part may be committed, whatever the map is
+pub ready_mapped : (task : Task) (progress : Progress) (map : LoadMap) (epoch : ℕ) → IsReady task epoch progress → IsReady task epoch (record progress { map = map })
+ready_mapped task progress map epoch ready = record {
+  gathers = ready.gathers;
+  images = ready.images;
+  epochs = ready.epochs;
+  drains = ready.drains;
+  works = ready.works;
+  run = ready.run;
+  epoch_is = ready.epoch_is;
+}
+
+-- the same books in a daemon that changed otherwise
+same_books : (task : Task) (applied epoch : ℕ) (before after : Progress) → after ≡ record before { asking = after.asking; finished = after.finished; flushes = after.flushes } → IsCurrent task applied epoch before → IsCurrent task applied epoch after
+same_books task applied epoch before after is current = subst (λ p. IsCurrent task applied epoch p) (sym is) (record {
+  mappings = current.mappings;
+  gathers = current.gathers;
+  images = current.images;
+  epochs = current.epochs;
+  drains = current.drains;
+  works = current.works;
+  run = current.run;
+  epoch_is = current.epoch_is;
+  part = current.part;
+})
+
+pub sound_asked : (task : Task) (progress : Progress) → IsSound task progress → AsksInNeed task.pace (slice_get (records_of task) progress.applied) → IsSound task (record progress { asking = true })
+sound_asked task progress sound need = record {
+  stands = record { within = sound.stands.within; need = λ e. need };
+  flushes = sound.flushes;
+  epochs = sound.epochs;
+  current = λ e. same_books task progress.applied progress.epoch progress (record progress { asking = true }) refl (sound.current e);
+}
+
+pub sound_finished : (task : Task) (progress : Progress) → IsSound task progress → IsSound task (record progress { finished = true })
+sound_finished task progress sound = record {
+  stands = record { within = sound.stands.within; need = sound.stands.need };
+  flushes = sound.flushes;
+  epochs = sound.epochs;
+  current = λ e. same_books task progress.applied progress.epoch progress (record progress { finished = true }) refl (sound.current e);
+}
+
+-- no fault is kept
+none_of : (o : Option DbFault) → is_some o ≡ false → o ≡ None
+none_of None e = refl
+none_of (Some fault) e = absurd (cc)
+
+pub current_taken : (task : Task) (progress : Progress) (flushes : Vec Flush Global) → IsSound task progress → is_some progress.failure ≡ false → IsCurrent task progress.applied progress.epoch (record progress { flushes = flushes })
+current_taken task progress flushes sound fine = same_books task progress.applied progress.epoch progress (record progress { flushes = flushes }) refl (sound.current (none_of progress.failure fine))
+
+-- where a call answered, three of its promises together
+pub all_three : {A B C X : Type 0} (result : Result Unit DbFault) → OnOk result A → OnOk result B → OnOk result C → (A → B → C → X) → OnOk result X
+all_three (Ok done) a b c all = all a b c
+all_three (Err fault) a b c all = tt
+
+-- one record further, with its books or with a fault that is kept from now on
+pub sound_moved : (task : Task) (before mid after : Progress) (notice : Record) → IsTask task → IsSound task before → slice_get (records_of task) before.applied ≡ Some notice
+    → mid ≡ record before { db = mid.db; map = mid.map; gathered = mid.gathered; part = mid.part; settled = mid.settled; noted = mid.noted }
+    → after ≡ record mid { applied = mid.applied + 1; asking = false; epoch = epoch_next mid.epoch notice }
+    → IsCurrent task (before.applied + 1) (epoch_next before.epoch notice) mid → IsSound task after
+sound_moved task before mid after notice is_task sound there only is current =
+    sound_stepped task before mid after notice is_task sound there
+    (only ∙ (λ k. record before { db = mid.db; map = mid.map; gathered = mid.gathered; part = mid.part; settled = mid.settled; noted = mid.noted; failure = ap (λ (p : Progress). p.failure) (sym only) k }))
+    is (λ e. current)
+
+pub sound_failed : (task : Task) (before mid after : Progress) (notice : Record) (fault : DbFault) → IsTask task → IsSound task before → slice_get (records_of task) before.applied ≡ Some notice
+    → mid ≡ record before { db = mid.db; map = mid.map; gathered = mid.gathered; part = mid.part; settled = mid.settled; noted = mid.noted }
+    → after ≡ record mid { applied = mid.applied + 1; asking = false; epoch = epoch_next mid.epoch notice; failure = Some fault }
+    → IsSound task after
+sound_failed task before mid after notice fault is_task sound there only is =
+    sound_stepped task before (record mid { failure = Some fault }) after notice is_task sound there
+    (ap (λ (p : Progress). record p { failure = Some fault }) only) is (λ e. absurd (never e))
+  where
+    never : Some fault ≡ None → ⊥
+    never e = cc

@@ -1,6 +1,5 @@
 -- The lemmas behind the answers.
 pub mod PartStored
-pub mod Outcomes
 pub mod Current
 pub mod Bells
 pub mod Rungs

@@ -71,14 +71,14 @@ one_file : (f g : Files) → Some f ≡ Some g → f ≡ g
 one_file f g is = cc
 
 pub part_committed : {D : Type 0} (files : D → Option Files) (faults moment : D → ℕ) (left : D → ℕ → Files → Type 0) (part : Part) (u : Update) (next : Head) (old mid new : D)
-  → IsChangeOf files faults moment left part u old mid
-  → next ≡ head_after u part.head
-  → FilesChanged u part.head next (files mid) (files new)
-  → row_count part.head + rows_added u part.head ≤ 65536
-  → CommitLeaves moment left part.head u mid new
-  → ((said : Database) → CrashesSay (LeftNow moment left mid) part.head said → CrashesSay (LeftNow moment left new) next (updated u said))
-  → faults new ≡ faults mid
-  → IsCommitted files faults moment left part next old new
+    → IsChangeOf files faults moment left part u old mid
+    → next ≡ head_after u part.head
+    → FilesChanged u part.head next (files mid) (files new)
+    → row_count part.head + rows_added u part.head ≤ 65536
+    → CommitLeaves moment left part.head u mid new
+    → ((said : Database) → CrashesSay (LeftNow moment left mid) part.head said → CrashesSay (LeftNow moment left new) next (updated u said))
+    → faults new ≡ faults mid
+    → IsCommitted files faults moment left part next old new
 part_committed files faults moment left part u next old mid new made next_is changed room leaves after count = record {
   head = subst (λ h. HeadGrows part.images (added_by part) part.epoch part.segment part.head h) (sym next_is) made.head;
   rows = subst (λ h. row_count h ≤ 65536) (sym next_is) (omega (arith, rows_after part.head u made.range made.fits, room));
@@ -97,11 +97,11 @@ part_committed files faults moment left part u next old mid new made next_is cha
 
 -- no change was made
 pub part_not_made : {D : Type 0} (files : D → Option Files) (faults moment : D → ℕ) (left : D → ℕ → Files → Type 0) (part : Part) (fault : DbFault) (old new : D)
-  → OnlyReads (files old) (files new) (moment old) (moment new) (left old) (left new)
-  → IsChangeCause (faults old) (faults new) fault
-  → ((f : Files) → files old ≡ Some f → HasFaultCause part.images (added_by part) part.head f fault)
-  → ((f : Files) (other : DbFault) → files old ≡ Some f → StopsPart part f other → IsAnswered {T = Unit {0}} other (Err fault))
-  → HasFailed files faults moment left part fault old new
+    → OnlyReads (files old) (files new) (moment old) (moment new) (left old) (left new)
+    → IsChangeCause (faults old) (faults new) fault
+    → ((f : Files) → files old ≡ Some f → HasFaultCause part.images (added_by part) part.head f fault)
+    → ((f : Files) (other : DbFault) → files old ≡ Some f → StopsPart part f other → IsAnswered {T = Unit {0}} other (Err fault))
+    → HasFailed files faults moment left part fault old new
 part_not_made files faults moment left part fault old new reads count cause first = record {
   count = count;
   cause = λ f told. with_cause part f fault (cause f told);
@@ -119,13 +119,13 @@ part_not_made files faults moment left part fault old new reads count cause firs
 
 -- the change was made and its commit failed
 pub part_not_committed : {D : Type 0} (files : D → Option Files) (faults moment : D → ℕ) (left : D → ℕ → Files → Type 0) (part : Part) (u : Update) (fault : DbFault) (old mid new : D)
-  → IsChangeOf files faults moment left part u old mid
-  → IsRoomFault (row_count part.head) (rows_added u part.head) fault
-  → StaysAt mid new fault
-  → IsWriteCause (faults mid) (faults new) fault
-  → CommitLeaves moment left part.head u mid new
-  → ((said : Database) → CrashesSay (LeftNow moment left mid) part.head said → (f : Files) → files new ≡ Some f → BeforeOrAfter u said f)
-  → HasFailed files faults moment left part fault old new
+    → IsChangeOf files faults moment left part u old mid
+    → IsRoomFault (row_count part.head) (rows_added u part.head) fault
+    → StaysAt mid new fault
+    → IsWriteCause (faults mid) (faults new) fault
+    → CommitLeaves moment left part.head u mid new
+    → ((said : Database) → CrashesSay (LeftNow moment left mid) part.head said → (f : Files) → files new ≡ Some f → BeforeOrAfter u said f)
+    → HasFailed files faults moment left part fault old new
 part_not_committed files faults moment left part u fault old mid new made room stays count leaves present = record {
   count = counted fault made.count count;
   cause = λ f told. caused fault room f;
@@ -140,17 +140,22 @@ part_not_committed files faults moment left part u fault old mid new made room s
     counted (Bad file) same h = absurd h
     counted (Full what held added) same h = h ∙ same
     counted Memory same h = h ∙ same
+
     caused : (fault : DbFault) → IsRoomFault (row_count part.head) (rows_added u part.head) fault → (f : Files) → HasCause part f fault
     caused StoreFault h f = tt
     caused (Bad file) h f = absurd h
-    caused (Full what held added) h f = inr (h.0, record {
-      next = head_after u part.head;
-      grows = made.head;
-      is_held = h.1;
-      total = ap (λ n. n + added) h.1 ∙ (ap (λ n. row_count part.head + n) h.2 ∙ sym (rows_after part.head u made.range made.fits));
-      over = subst (λ n. 65536 < n) (sym (ap (λ n. n + added) h.1 ∙ ap (λ n. row_count part.head + n) h.2)) h.3;
-    })
+    caused (Full what held added) h f = inr (
+      h.0,
+      record {
+        next = head_after u part.head;
+        grows = made.head;
+        is_held = h.1;
+        total = ap (λ n. n + added) h.1 ∙ (ap (λ n. row_count part.head + n) h.2 ∙ sym (rows_after part.head u made.range made.fits));
+        over = subst (λ n. 65536 < n) (sym (ap (λ n. n + added) h.1 ∙ ap (λ n. row_count part.head + n) h.2)) h.3;
+      },
+    )
     caused Memory h f = tt
+
     only_read : (fault : DbFault) → is_found_before fault ≡ true → StaysAt mid new fault → IsRoomFault (row_count part.head) (rows_added u part.head) fault → OnlyReads (files old) (files new) (moment old) (moment new) (left old) (left new)
     only_read StoreFault before stays room = absurd (cc)
     only_read (Bad file) before stays room = absurd room

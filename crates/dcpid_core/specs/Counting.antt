@@ -8,7 +8,8 @@ use Rattle.trace_model.specs.Streams.{records_in}
 use Rattle.lane_side.specs.Plain.{Plain}
 use Rattle.run_model.specs.Daemon.{advance, answering, flush_before, is_flushed}
 use Rattle.dcpid_core.specs.Flushes.{AnswerIs, IsCounter, flush_took, is_complete, no_flush}
-use Rattle.dcpid_core.specs.Collection.{Collection}
+use Rattle.dcpid_core.specs.Collection.{Collection, FitFrom, rang_if}
+use Rattle.run_model.specs.Books.{StandsWell}
 use Rattle.dcpid_core.specs.Advancing.{advance_of}
 use Rattle.dcpid_core.specs.declared.flushes.Flush.{Flush}
 use Rattle.std.specs.declared.option.Option.{Option}
@@ -57,3 +58,12 @@ pub record CountsAgree : Type 0 where
       → value < later → Agrees value flush far → Agrees later flush far
   pub rang : (value bell tries : ℕ) (flush : Flush) (far : FarSide)
       → Agrees value flush far → Agrees value flush (far_rang far bell tries)
+
+-- After an advance the sides fit the daemon still: they were rung with what it rang. The daemon asks only where it is needed.
+abbrev pub SidesFitOn : Type 0
+SidesFitOn = (daemon new : Collection) (sides : List Plain)
+    → StandsWell daemon.pace (records_in daemon.trace) daemon.state
+    → new.trace ≡ daemon.trace → new.pace ≡ daemon.pace
+    → new.state.applied ≡ (advance_of daemon).daemon.applied
+    → new.state.asking ≡ (advance_of daemon).daemon.asking
+    → FitFrom daemon 0 sides → FitFrom new 0 (rang_if (advance_of daemon).ring sides)

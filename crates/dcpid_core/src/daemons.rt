@@ -66,13 +66,7 @@ impl<'a> Daemon<'a> {
 
     /// Polls a cell of a processor: 0 and 1 are the overflow buffers, 2 is the table. What waits there is taken, noted with its
     /// counts, and given back empty; where the daemon keeps a fault it is only taken and given back.
-    pub fn poll<T: DaemonSide>(
-        &mut self,
-        alloc: Global,
-        cpu: u32,
-        cell: u8,
-        side: &mut T,
-    ) -> Polled
+    pub fn poll<T: DaemonSide>(&mut self, alloc: Global, cpu: u32, cell: u8, side: &mut T) -> Polled
         requires cpu { cpu < self.old.trace.cpus }
         requires cell { cell ≤ LAST_CELL }
         requires fitting { IsFitting self.old cpu (T.fixed side.old) (T.far side.old) }

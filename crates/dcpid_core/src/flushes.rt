@@ -1,6 +1,6 @@
 //! What the daemon took of a processor, in short: enough to tell whether its flush is complete.
 
-ghost use Rattle.std.specs.Prelude.{◌≡◌, ◌≤◌};
+ghost use Rattle.std.specs.Prelude.{◌≡◌, ◌^◌, ◌<◌, ◌≤◌};
 ghost use Rattle.sample_key.specs.declared.limits.TheConstants.{MOST_SAMPLES};
 ghost use Rattle.dcpid_core.specs.Flushes.{IsCounter, flush_took, is_complete, no_flush};
 
@@ -43,8 +43,8 @@ impl Flush {
         ensures few { note.now.upto ≤ MOST_SAMPLES }
     {
         let answers = note.answers;
-        let sent0 = note.sent0;
-        let sent1 = note.sent1;
+        let sent0 = counter(note.sent0);
+        let sent1 = counter(note.sent1);
         if cell == 0 {
             self.first = self.first.saturating_add(1);
         } else if cell == 1 {
@@ -62,4 +62,12 @@ impl Flush {
     {
         self.answers == value && self.sent0 <= self.first && self.sent1 <= self.second
     }
+}
+
+// The number of a counter, which fits it: callers learn so of the numbers of a note.
+fn counter(number: u64) -> u64
+    ensures same { result ≡ number }
+    ensures fits { number < 2 ^ 64 }
+{
+    number
 }

@@ -16,6 +16,6 @@ mod storing;
 
 pub use daemons::Daemon;
 pub use flushes::Flush;
-pub use laws::{advances_are_the_runs, counts_agree};
+pub use laws::{advances_are_the_runs, counts_agree, sides_fit_on};
 pub use polled::Polled;
 pub use run_model::Advanced;

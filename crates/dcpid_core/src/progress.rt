@@ -26,7 +26,9 @@ ghost use Rattle.dcpid_core.specs.Booking.{HasFailedWith, IsReady, IsSettled, Ke
 use crate::flushes::Flush;
 use crate::polled::Polled;
 use crate::ringing::ring_all;
-use crate::rules::{ends_part, epochs_begun, first_incomplete, flush_before, in_force, needs_flush};
+use crate::rules::{
+    ends_part, epochs_begun, first_incomplete, flush_before, in_force, needs_flush,
+};
 use crate::storing::store_part;
 use database_state::DbFault;
 use epoch_store::Database;
@@ -57,12 +59,7 @@ pub(crate) struct Task<'a> {
 
 impl<'a> Task<'a> {
     // The task of a run of this trace into this database.
-    pub(crate) fn of(
-        trace: &'a Trace,
-        records: &'a [Record],
-        pace: Pace,
-        db: &Database,
-    ) -> Task<'a>
+    pub(crate) fn of(trace: &'a Trace, records: &'a [Record], pace: Pace, db: &Database) -> Task<'a>
         requires { records.now ≡ records_in (recording_of trace.now) }
         ensures is { IsTask result }
         ensures trace { result.trace.now ≡ trace.now }
@@ -114,11 +111,7 @@ pub(crate) struct Progress {
 
 impl Progress {
     // The start of a run.
-    pub(crate) fn at_start(
-        alloc: Global,
-        task: &Task,
-        db: Database,
-    ) -> Result<Progress, AllocError>
+    pub(crate) fn at_start(alloc: Global, task: &Task, db: Database) -> Result<Progress, AllocError>
         requires task { IsTask task.now }
         requires run { task.now.run ≡ (head_of db).runs + 1 }
         requires first_epoch { task.now.first_epoch ≡ (head_of db).epoch }
@@ -460,13 +453,7 @@ impl Progress {
     }
 
     // The daemon moves to this record; unless a fault is kept its books do so too, or a fault is kept from now on.
-    fn put_in_force<D: Store>(
-        &mut self,
-        alloc: Global,
-        task: &Task,
-        notice: &Record,
-        store: &mut D,
-    )
+    fn put_in_force<D: Store>(&mut self, alloc: Global, task: &Task, notice: &Record, store: &mut D)
         requires task { IsTask task.now }
         requires sound { IsSound task.now self.old }
         requires notice { slice_get (records_of task.now) self.old.applied ≡ Some notice.now }
@@ -496,9 +483,9 @@ impl Progress {
         requires applied { self.old.applied < MOST_RECORDS }
         requires epoch { self.old.epoch ≤ MOST_RECORDS + self.old.applied }
         ensures { self.new ≡ record self.old {
-            applied = self.old.applied + 1;
-            asking = false;
-            epoch = self.old.epoch + (if begins_epoch notice.now then 1 else 0);
+          applied = self.old.applied + 1;
+          asking = false;
+          epoch = self.old.epoch + (if begins_epoch notice.now then 1 else 0);
         } }
     {
         self.epoch += epochs_begun(notice);
@@ -524,12 +511,12 @@ impl Progress {
         ensures current { OnOk result (IsCurrent task.now (self.old.applied + 1)
             (epoch_next self.old.epoch notice.now) self.new) }
         ensures only { self.new ≡ record self.old {
-            db = self.new.db;
-            map = self.new.map;
-            gathered = self.new.gathered;
-            part = self.new.part;
-            settled = self.new.settled;
-            noted = self.new.noted;
+          db = self.new.db;
+          map = self.new.map;
+          gathered = self.new.gathered;
+          part = self.new.part;
+          settled = self.new.settled;
+          noted = self.new.noted;
         } }
         ensures origin { D.origin store.new ≡ D.origin store.old }
     {
@@ -561,11 +548,11 @@ impl Progress {
         ensures part { OnOk result (self.new.part ≡ self.old.part + 1) }
         ensures noted { OnOk result (self.new.noted.items ≡ []) }
         ensures only { self.new ≡ record self.old {
-            db = self.new.db;
-            gathered = self.new.gathered;
-            part = self.new.part;
-            settled = self.new.settled;
-            noted = self.new.noted;
+          db = self.new.db;
+          gathered = self.new.gathered;
+          part = self.new.part;
+          settled = self.new.settled;
+          noted = self.new.noted;
         } }
         ensures origin { D.origin store.new ≡ D.origin store.old }
     {
@@ -595,11 +582,11 @@ impl Progress {
             (part_in (collection_of task.now self.old) epoch last
             (map (λ v. v.items) losses.items)) store.old store.new) }
         ensures only { self.new ≡ record self.old {
-            db = self.new.db;
-            gathered = self.new.gathered;
-            part = self.new.part;
-            settled = self.new.settled;
-            noted = self.new.noted;
+          db = self.new.db;
+          gathered = self.new.gathered;
+          part = self.new.part;
+          settled = self.new.settled;
+          noted = self.new.noted;
         } }
         ensures part { OnOk result (self.new.part ≡ self.old.part + 1) }
         ensures noted { OnOk result (self.new.noted.items ≡ []) }
@@ -624,7 +611,15 @@ impl Progress {
             losses,
         };
         let images = &task.trace.images;
-        let stored = store_part(alloc, &mut self.db, store, &gathered, images, epoch, segment)?;
+        let stored = store_part(
+            alloc,
+            &mut self.db,
+            store,
+            &gathered,
+            images,
+            epoch,
+            segment,
+        )?;
         self.part += 1;
         let mut drains = stored.drains;
         match self.settled.append(&mut drains) {

@@ -34,14 +34,24 @@ pub(crate) fn store_part<D: Store>(
     ensures committed { OnOk result ((records : List Notice) →
         Gathers gathered.now images.now records segment.drains →
         IsCommitted D.files D.faults D.moment D.left_since
-        (record { images = images.now; records = records; head = head_of db.old; epoch = epoch;
-        segment = segment })
+        (record {
+          images = images.now;
+          records = records;
+          head = head_of db.old;
+          epoch = epoch;
+          segment = segment;
+        })
         (head_of db.new) store.old store.new) }
     ensures failed { IfErr result (λ fault. (records : List Notice) →
         Gathers gathered.now images.now records segment.drains →
         HasFailed D.files D.faults D.moment D.left_since
-        (record { images = images.now; records = records; head = head_of db.old; epoch = epoch;
-        segment = segment })
+        (record {
+          images = images.now;
+          records = records;
+          head = head_of db.old;
+          epoch = epoch;
+          segment = segment;
+        })
         fault store.old store.new) }
     ensures segment { IfOk result (λ kept. kept ≡ segment) }
     ensures works { OnOk result (failed_of db.new ≡ None) }

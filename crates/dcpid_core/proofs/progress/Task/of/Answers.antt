@@ -1,5 +1,7 @@
 -- The trace's own laws.
 use Rattle.std.proofs.Common.{arith}
+use Rattle.trace_model.specs.Recording.{said_in}
+use Rattle.trace_model.specs.Traces.{recording_of}
 use Rattle.dcpid_core.proofs.Images.{apart}
 use Rattle.dcpid_core.proofs.progress.Task.of.Goals as goal
 
@@ -11,7 +13,7 @@ returns-clause-is c = record {
   ranges = c.ranges_are_kept.ensures.ranges;
   some_cpus = c.sizes_are_kept.ensures.some_cpus;
   cpus = c.sizes_are_kept.ensures.cpus;
-  apart = apart _ _ c.args.trace.now.in_order;
+  apart = apart c.args.trace.now.images.items (said_in (recording_of c.args.trace.now)) c.args.trace.now.in_order;
   images = c.places_have_images.ensures;
   run = omega arith;
 }
