@@ -1,16 +1,13 @@
 -- The daemon's counts agree with what was taken.
-use Rattle.std.proofs.Common.{arith, ◌≡◌, ℕ, zero, suc, ◌+◌, ◌-◌, ◌*◌, ◌^◌, ◌<◌, ◌≤◌, ◌==◌, ◌&&◌, min, not, nat_le, refl, sym, ◌∙◌, ap, subst, Bool, true, false, if◌then◌else◌, List, [], ◌∷◌, ◌++◌, length, map, slice_get, Option, Some, None, length-append}
+use Rattle.std.proofs.Common.{arith, ◌≡◌, ℕ, zero, suc, ◌+◌, ◌-◌, ◌*◌, ◌^◌, ◌<◌, ◌≤◌, ◌==◌, ◌&&◌, min, not, nat_le, refl, sym, ◌∙◌, ap, subst, Bool, true, false, if◌then◌else◌, List, [], ◌∷◌, ◌++◌, length, slice_get, Option, Some, None, length-append}
 use Rattle.std.proofs.lemmas.Grind.{common_steps}
 use Rattle.sample_key.specs.Headers.{Header}
 use Rattle.sample_key.specs.Sent.{Sent}
 use Rattle.driver_model.specs.Lists.{AllOf}
 use Rattle.driver_model.specs.Handover.{FarSide, far_gave_buffer, far_gave_table, far_took_buffer, far_took_table}
-use Rattle.lane_side.specs.Plain.{Plain}
 use Rattle.trace_model.specs.Streams.{records_in}
-use Rattle.run_model.specs.Daemon.{advance, answering, begin, first_waiting, flush_before, go_on, is_flushed, reaches}
-use Rattle.dcpid_core.specs.Flushes.{AnswerIs, IsCounter, first_incomplete, flush_answered, flush_took, is_complete, no_flush, one_more}
-use Rattle.dcpid_core.specs.Collection.{Collection}
-use Rattle.dcpid_core.specs.Advancing.{advance_of}
+use Rattle.run_model.specs.Daemon.{answering, begin, first_waiting, flush_before, go_on, is_flushed, reaches}
+use Rattle.dcpid_core.specs.Flushes.{AnswerIs, IsCounter, first_incomplete, flush_answered, flush_took, is_complete, one_more}
 use Rattle.dcpid_core.specs.Counting.{Agree, Agrees, CountsAgree, AdvancesAsTheRun, fars_in}
 use Rattle.dcpid_core.specs.declared.flushes.Flush.{Flush}
 

@@ -1,5 +1,5 @@
 -- The books stay those of the records and the drains, from one record to the next.
-use Rattle.std.proofs.Common.{arith, Vec, ◌≡◌, ℕ, suc, get_or, ◌+◌, ◌<◌, ◌≤◌, ◌⊎◌, inl, inr, refl, sym, ◌∙◌, ap, subst, Bool, true, false, cond, if◌then◌else◌, List, [], ◌∷◌, ◌++◌, length, take, add-one, Option, Some, None, Ok, Err}
+use Rattle.std.proofs.Common.{arith, Vec, ◌≡◌, ℕ, get_or, ◌+◌, ◌<◌, ◌≤◌, ◌⊎◌, inl, inr, refl, sym, ◌∙◌, ap, subst, Bool, true, false, cond, if◌then◌else◌, List, [], ◌∷◌, ◌++◌, length, take, add-one, Option, Some, None, Ok, Err}
 use Rattle.std.specs.Prelude.{slice_get, is_some, OnOk}
 use Rattle.std.specs.declared.result.Result.{Result}
 use Rattle.std.specs.Global.{Global}

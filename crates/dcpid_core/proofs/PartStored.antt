@@ -1,9 +1,8 @@
 -- A part that goes into the store: what the calls that make its change and commit it promise together.
-use Rattle.std.proofs.Common.{arith, ◌≡◌, ℕ, ◌+◌, ◌<◌, ◌≤◌, ◌⊎◌, inl, inr, refl, sym, ◌∙◌, ap, subst, true, false, Option, Some, Ok, Err}
-use Rattle.std.specs.declared.result.Result.{Result}
+use Rattle.std.proofs.Common.{arith, ◌≡◌, ℕ, ◌+◌, ◌<◌, ◌≤◌, inl, inr, refl, sym, ◌∙◌, ap, subst, true, Option, Some, Err}
 use Rattle.outside_io.specs.Causes.{Rose}
 use Rattle.store_io.specs.Files.{Files}
-use Rattle.store_io.specs.Crashes.{Elapses, LeavesOnly, LeftNow, OnlyReads}
+use Rattle.store_io.specs.Crashes.{LeavesOnly, LeftNow, OnlyReads}
 use Rattle.store_io.proofs.Chains.{after_reads, leaves_wider, only_reads}
 use Rattle.database_state.specs.Database.{Database}
 use Rattle.database_state.specs.Heads.{Head, is_in_range, row_count}
@@ -11,15 +10,13 @@ use Rattle.database_state.specs.Standing.{CrashesSay, HaveHead, StandsFor, datab
 use Rattle.database_state.specs.Updates.{Fits, Update, head_after, rows_added, updated}
 use Rattle.database_state.specs.declared.faults.DbFault.{DbFault}
 use Rattle.database_state.specs.declared.faults.DbFault.TheVariants.{StoreFault, Bad, Full, Memory}
-use Rattle.database_state.specs.declared.faults.DbError.{DbError}
-use Rattle.database_state.specs.declared.faults.DbError.TheVariants.{Fault, Stopped}
-use Rattle.epoch_store.specs.Commits.{BeforeOrAfter, FilesChanged, FindsRoom, IsRoomFault, IsUntouched, StaysAt}
-use Rattle.epoch_store.specs.Faults.{HasCommitCause, IsWriteCause}
+use Rattle.epoch_store.specs.Commits.{BeforeOrAfter, FilesChanged, IsRoomFault, StaysAt}
+use Rattle.epoch_store.specs.Faults.{IsWriteCause}
 use Rattle.epoch_store.proofs.NextHead.{rows_after}
 use Rattle.growth_model.specs.Fitting.{HeadGrows}
 use Rattle.growth_model.specs.Growth.{Grows}
-use Rattle.profile_merge.specs.Changing.{GrowsFiles, HasChangeCause, HasFaultCause, IsAnswered, IsChangeCause}
-use Rattle.dcpid_core.specs.Storing.{BeforeOrGrown, HasCause, HasFailed, HasNoRows, IsCommitted, Part, PartGrows, StopsPart, TellsNow, added_by, is_found_before}
+use Rattle.profile_merge.specs.Changing.{GrowsFiles, HasFaultCause, IsAnswered, IsChangeCause}
+use Rattle.dcpid_core.specs.Storing.{BeforeOrGrown, HasCause, HasFailed, IsCommitted, Part, PartGrows, StopsPart, TellsNow, added_by, is_found_before}
 
 -- ---- what a change that was made brings
 

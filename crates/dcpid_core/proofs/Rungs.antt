@@ -1,5 +1,5 @@
 -- The sides fit the daemon still, after their bells were rung.
-use Rattle.std.proofs.Common.{arith, ◌≡◌, ℕ, zero, suc, ◌+◌, ◌*◌, ◌<◌, ◌≤◌, refl, sym, ◌∙◌, ap, subst, Bool, true, false, if◌then◌else◌, List, [], ◌∷◌, ◌++◌, length, map, take, append-nil, append_assoc, add-one, Option, Some, None}
+use Rattle.std.proofs.Common.{arith, ◌≡◌, ℕ, zero, suc, ◌+◌, ◌<◌, refl, sym, ◌∙◌, ap, subst, Bool, true, false, if◌then◌else◌, List, [], ◌∷◌, ◌++◌, length, map, take, append-nil, append_assoc, add-one, Option, Some, None}
 use Rattle.std.specs.Prelude.{slice_get}
 use Rattle.std.proofs.lemmas.List.{length-take}
 use Rattle.sample_key.specs.declared.losses.Pace.{Pace}
@@ -7,7 +7,7 @@ use Rattle.trace_model.specs.Streams.{records_in, stream_of}
 use Rattle.trace_model.specs.declared.notices.Record.{Record}
 use Rattle.lane_side.specs.Plain.{Plain}
 use Rattle.run_model.specs.Daemon.{Advancing, Daemon, ask, begin, flush_before, go_on, in_force, move, needs_flush, rungs_before, rungs_of, settle}
-use Rattle.run_model.specs.Books.{AsksInNeed, StandsWell}
+use Rattle.run_model.specs.Books.{AsksInNeed}
 use Rattle.run_model.specs.declared.advances.Advanced.{Advanced}
 use Rattle.run_model.specs.declared.advances.Advanced.TheVariants.{Finished, Waiting}
 use Rattle.dcpid_core.specs.Flushes.{first_incomplete}

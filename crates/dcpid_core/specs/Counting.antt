@@ -1,13 +1,12 @@
 -- What the daemon counts agrees with what the sides tell was taken, and so its advance is the run's.
-use Rattle.std.specs.Prelude.{◌≡◌, ℕ, ◌+◌, ◌-◌, ◌^◌, ◌<◌, ◌≤◌, min, List, [], ◌∷◌, length, map, slice_get, Some}
-use Rattle.sample_key.specs.Headers.{Header}
+use Rattle.std.specs.Prelude.{◌≡◌, ℕ, ◌-◌, ◌^◌, ◌<◌, ◌≤◌, min, List, [], ◌∷◌, length, map}
 use Rattle.sample_key.specs.Sent.{Sent}
 use Rattle.driver_model.specs.Lists.{AllOf}
 use Rattle.driver_model.specs.Handover.{FarSide, Given, far_gave_buffer, far_gave_table, far_rang, far_took_buffer, far_took_table, new_far}
 use Rattle.trace_model.specs.Streams.{records_in}
 use Rattle.lane_side.specs.Plain.{Plain}
-use Rattle.run_model.specs.Daemon.{advance, answering, flush_before, is_flushed}
-use Rattle.dcpid_core.specs.Flushes.{AnswerIs, IsCounter, flush_took, is_complete, no_flush}
+use Rattle.run_model.specs.Daemon.{advance, answering, flush_before}
+use Rattle.dcpid_core.specs.Flushes.{AnswerIs, IsCounter, flush_took, no_flush}
 use Rattle.dcpid_core.specs.Collection.{Collection, FitFrom, rang_if}
 use Rattle.run_model.specs.Books.{StandsWell}
 use Rattle.dcpid_core.specs.Advancing.{advance_of}

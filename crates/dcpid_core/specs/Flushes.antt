@@ -1,10 +1,7 @@
 -- What the daemon counts of the batches that it takes, and when a flush is complete by these counts.
-use Rattle.std.specs.Prelude.{◌≡◌, ℕ, ◌+◌, ◌-◌, ◌^◌, ◌<◌, ◌≤◌, true, ◌==◌, ◌&&◌, min, not, nat_le, Bool, if◌then◌else◌, List, [], ◌∷◌, length, Option, Some, None}
+use Rattle.std.specs.Prelude.{◌≡◌, ℕ, ◌+◌, ◌-◌, ◌^◌, ◌<◌, true, ◌==◌, ◌&&◌, min, not, nat_le, Bool, if◌then◌else◌, List, [], ◌∷◌, Option, Some, None}
 use Rattle.sample_key.specs.Headers.{Header}
 use Rattle.sample_key.specs.Sent.{Sent}
-use Rattle.driver_model.specs.Lists.{AllOf}
-use Rattle.driver_model.specs.Handover.{FarSide}
-use Rattle.run_model.specs.Daemon.{answering}
 use Rattle.dcpid_core.specs.declared.flushes.Flush.{Flush}
 
 -- nothing was taken

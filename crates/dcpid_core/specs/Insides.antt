@@ -1,5 +1,5 @@
 -- The fields of the daemon's structs as its contracts see them, and what they keep between its calls.
-use Rattle.std.specs.Prelude.{◌≡◌, ℕ, ◌+◌, ◌≤◌, ◌⊎◌, true, List, ◌++◌, length, take, slice_get, Option, Some, None}
+use Rattle.std.specs.Prelude.{◌≡◌, ℕ, ◌+◌, ◌≤◌, ◌⊎◌, true, List, ◌++◌, length, take, None}
 use Rattle.std.specs.List.{All, AllByRecursion, IsDistinct, count_by}
 use Rattle.std.specs.Str.{bytes_eq}
 use Rattle.trace_model.specs.Parts.{ends_part, part_of}

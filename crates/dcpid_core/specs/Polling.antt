@@ -1,5 +1,5 @@
 -- What a poll does: a batch is taken and noted, or only taken where a fault is kept, or none waits.
-use Rattle.std.specs.Prelude.{◌≡◌, ℕ, zero, suc, ◌+◌, ◌%◌, ◌≤◌, List, [], ◌∷◌, ◌++◌, length, slice_set, slice_index_or, unwrap_or, Option, Some, None}
+use Rattle.std.specs.Prelude.{◌≡◌, ℕ, zero, suc, ◌%◌, [], ◌∷◌, ◌++◌, length, slice_set, slice_index_or, unwrap_or, Some, None}
 use Rattle.sample_key.specs.Sent.{Sent}
 use Rattle.sample_key.specs.declared.limits.TheConstants.{LAST_CELL}
 use Rattle.trace_model.specs.Streams.{records_in}

@@ -1,8 +1,7 @@
 -- What becomes of the store when a part of a run is committed: the part is there whole or not at all, whatever moment is hit.
 use Rattle.std.specs.Prelude.{◌≡◌, ℕ, ◌+◌, ◌<◌, ◌≤◌, ◌⊎◌, Bool, true, false, List, Option, Some, Err}
-use Rattle.std.specs.declared.result.Result.{Result}
 use Rattle.trace_model.specs.declared.notices.Record.{Record}
-use Rattle.database_model.specs.Runs.{Recorded, Segment}
+use Rattle.database_model.specs.Runs.{Segment}
 use Rattle.store_io.specs.Files.{Files}
 use Rattle.store_io.specs.Crashes.{LeavesOnly, LeftNow, OnlyReads}
 use Rattle.database_state.specs.Database.{Database}

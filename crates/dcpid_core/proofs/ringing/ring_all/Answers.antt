@@ -1,5 +1,4 @@
 -- Each side is rung as it was.
-use Rattle.std.specs.List.{AllByRecursion}
 use Rattle.driver_model.specs.Handover.{rung_of}
 use Rattle.lane_side.specs.Plain.{Plain}
 use Rattle.dcpid_core.specs.Collection.{MayRing, rang}

@@ -1,10 +1,6 @@
 -- The change was made and committed, or one of the two calls failed.
-use Rattle.std.proofs.Common.{◌≡◌}
 use Rattle.std.proofs.lemmas.Result.{err_from_is_err_and}
-use Rattle.trace_model.specs.declared.notices.Record.{Record}
-use Rattle.database_state.specs.Updates.{Update}
 use Rattle.epoch_store.specs.Databases.{head_of}
-use Rattle.profile_merge.specs.Gathering.{Gathers}
 use Rattle.dcpid_core.specs.Storing.{Part}
 use Rattle.dcpid_core.proofs.PartStored.{IsChangeOf, part_committed, part_not_committed, part_not_made}
 use Rattle.dcpid_core.proofs.storing.store_part.Goals as goal
