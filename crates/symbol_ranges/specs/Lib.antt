@@ -3,3 +3,4 @@ pub mod Reads
 pub mod Index
 pub mod Reading
 pub mod Readings
+pub mod Words

@@ -33,6 +33,27 @@ pub enum SymbolWhy {
     TooMany,
 }
 
+impl SymbolWhy {
+    ghost use Rattle.std.specs.Prelude.{◌≡◌};
+    ghost use Rattle.symbol_ranges.specs.Words.{word_of};
+
+    /// The word for the reason: the variant's name.
+    pub fn word(self) -> &'static [u8]
+        ensures { result.now ≡ word_of self }
+    {
+        match self {
+            SymbolWhy::Unfinished => b"Unfinished",
+            SymbolWhy::BadLine => b"BadLine",
+            SymbolWhy::BadNumber => b"BadNumber",
+            SymbolWhy::OutOfRange => b"OutOfRange",
+            SymbolWhy::Unaligned => b"Unaligned",
+            SymbolWhy::BadName => b"BadName",
+            SymbolWhy::Overlap => b"Overlap",
+            SymbolWhy::TooMany => b"TooMany",
+        }
+    }
+}
+
 /// Why a line was not added.
 #[derive(Clone, Copy, Debug, PartialEq, Eq, Error)]
 pub enum SymbolLineError {
