@@ -1,0 +1,5 @@
+pub mod Adding
+pub mod Runs
+pub mod Listings
+pub mod Sites
+pub mod EpochSums
