@@ -3,3 +3,4 @@ pub mod Runs
 pub mod Listings
 pub mod Sites
 pub mod EpochSums
+pub mod Taken

@@ -71,7 +71,7 @@ pub strictly_sorted : (rows : List Row) → IsSorted row_cmp rows → IsDistinct
 unfolding IsStrictlySortedBy
 strictly_sorted [] sorted apart = tt
 strictly_sorted (row ∷ rows) sorted apart =
-    sorted_from_all_adjacent row_total (row ∷ rows) row (λ k within. strict (row_cmp (get_or (row ∷ rows) k row) (get_or (row ∷ rows) (k + 1) row)) _ _ refl (sorted k row (omega arith) within) (apart_at k within))
+    sorted_from_all_adjacent row_total (row ∷ rows) row (λ k within. strict (row_cmp (get_or (row ∷ rows) k row) (get_or (row ∷ rows) (k + 1) row)) (get_or (row ∷ rows) k row) (get_or (row ∷ rows) (k + 1) row) refl (sorted k row (omega arith) within) (apart_at k within))
   where
     size : (l : List Row) → length (map label_in l) ≡ length l
     size [] = refl

@@ -1,5 +1,5 @@
 //! Reading what a listing counts: the known rows of the head that are wanted, then the unknown ones, in their order.
-ghost use Rattle.std.specs.Prelude.{◌≡◌, ◌<◌, ◌≤◌, ◌+◌, ◌*◌, ◌^◌, ◌==◌, ◌&&◌, is_some, length, Some, IfOk, OnOk, sum_by};
+ghost use Rattle.std.specs.Prelude.{◌≡◌, ◌<◌, ◌≤◌, ◌+◌, ◌*◌, ◌^◌, ◌==◌, ◌&&◌, [], ◌∷◌, is_some, length, Some, IfOk, OnOk, sum_by};
 ghost use Rattle.std.specs.Option.{option_copied};
 ghost use Rattle.store_io.specs.Files.{Files};
 ghost use Rattle.store_io.specs.Crashes.{OnlyReads};
@@ -11,9 +11,9 @@ ghost use Rattle.epoch_store.specs.Faults.{HasDbCause};
 ghost use Rattle.report_text.specs.declared.labels.Label.TheVariants.{Unknown};
 ghost use Rattle.dcpiprof_report.specs.Counting.{label_at};
 ghost use Rattle.dcpiprof_report.specs.Reading.{Gives, first_bad, is_chosen, known_wanted, unknown_wanted, wanted};
-ghost use Rattle.dcpiprof_report.specs.Sums.{AddsFile, AreSums, Counts, Grows, held_in_all, known_counts, most_counted, unknown_counts};
+ghost use Rattle.dcpiprof_report.specs.Sums.{AddsFile, AreSums, Counts, Grows, held_in_all, known_count, known_counts, most_counted, unknown_count, unknown_counts};
 
-use crate::sums::{add, add_rows};
+use crate::sums::{add_rows, add_unknown};
 use epoch_store::{Database, DbFault, KnownRow, UnknownRow, read_known, read_unknown};
 use profile_file::ProfileRow;
 use report_text::{Epochs, Label};
@@ -80,9 +80,7 @@ impl Query<'_> {
         ensures origin { D.origin store.new ≡ D.origin store.old }
     {
         for row in self.db.known_rows() {
-            if self.wants(row.epoch, row.event) {
-                self.add_known_row(alloc, store, sums, *row)?;
-            }
+            self.take_known(alloc, store, sums, *row)?;
         }
         Ok(())
     }
@@ -110,11 +108,38 @@ impl Query<'_> {
         ensures origin { D.origin store.new ≡ D.origin store.old }
     {
         for row in self.db.unknown_rows() {
-            if self.wants(row.epoch, row.event) {
-                self.add_unknown_row(alloc, store, sums, *row)?;
-            }
+            self.take_unknown(alloc, store, sums, *row)?;
         }
         Ok(())
+    }
+
+    fn take_known<D: Store>(
+        &self,
+        alloc: Global,
+        store: &mut D,
+        sums: &mut BTreeMap<Label, u128>,
+        row: KnownRow,
+    ) -> Result<(), DbFault>
+        requires found { known_row (head_of self.now.db.now).known row.epoch row.image row.event ≡ Some row }
+        requires image { row.image < length (head_of self.now.db.now).names }
+        requires room { held_in_all sums.old.entries + most_counted < 2 ^ 128 }
+        ensures told { (files : Files) → D.files store.old ≡ Some files →
+            Gives (first_bad files (known_wanted self.now.epochs (code_of self.now.event) (row ∷ [])))
+            (λ _. Grows sums.old.entries sums.new.entries (λ test. known_count files (head_of self.now.db.now).names (option_copied self.now.symbols) self.now.epochs (code_of self.now.event) test row))
+            result }
+        ensures room { OnOk result (held_in_all sums.new.entries
+            ≤ held_in_all sums.old.entries + most_counted) }
+        ensures labels { OnOk result (AreSums (is_some self.now.symbols) sums.old.entries
+            → AreSums (is_some self.now.symbols) sums.new.entries) }
+        ensures reads { OnlyReads (D.files store.old) (D.files store.new) (D.moment store.old)
+            (D.moment store.new) (D.left_since store.old) (D.left_since store.new) }
+        ensures cause { HasDbCause (D.faults store.old) (D.faults store.new) result }
+        ensures origin { D.origin store.new ≡ D.origin store.old }
+    {
+        if !self.wants(row.epoch, row.event) {
+            return Ok(());
+        }
+        self.add_known_row(alloc, store, sums, row)
     }
 
     fn add_known_row<D: Store>(
@@ -148,6 +173,34 @@ impl Query<'_> {
         Ok(())
     }
 
+    fn take_unknown<D: Store>(
+        &self,
+        alloc: Global,
+        store: &mut D,
+        sums: &mut BTreeMap<Label, u128>,
+        row: UnknownRow,
+    ) -> Result<(), DbFault>
+        requires found { unknown_row (head_of self.now.db.now).unknown row.epoch row.event ≡ Some row }
+        requires room { held_in_all sums.old.entries + most_counted < 2 ^ 128 }
+        ensures told { (files : Files) → D.files store.old ≡ Some files →
+            Gives (first_bad files (unknown_wanted self.now.epochs (code_of self.now.event) (row ∷ [])))
+            (λ _. Grows sums.old.entries sums.new.entries (λ test. unknown_count files self.now.epochs (code_of self.now.event) test row))
+            result }
+        ensures room { OnOk result (held_in_all sums.new.entries
+            ≤ held_in_all sums.old.entries + most_counted) }
+        ensures labels { OnOk result (AreSums (is_some self.now.symbols) sums.old.entries
+            → AreSums (is_some self.now.symbols) sums.new.entries) }
+        ensures reads { OnlyReads (D.files store.old) (D.files store.new) (D.moment store.old)
+            (D.moment store.new) (D.left_since store.old) (D.left_since store.new) }
+        ensures cause { HasDbCause (D.faults store.old) (D.faults store.new) result }
+        ensures origin { D.origin store.new ≡ D.origin store.old }
+    {
+        if !self.wants(row.epoch, row.event) {
+            return Ok(());
+        }
+        self.add_unknown_row(alloc, store, sums, row)
+    }
+
     fn add_unknown_row<D: Store>(
         &self,
         alloc: Global,
@@ -171,10 +224,7 @@ impl Query<'_> {
         ensures origin { D.origin store.new ≡ D.origin store.old }
     {
         let profile = read_unknown(alloc, self.db, store, row.epoch, self.event)?;
-        let count = count_of(profile.rows());
-        if count > 0 {
-            add(sums, Label::Unknown, count)?;
-        }
+        add_unknown(sums, count_of(profile.rows()))?;
         Ok(())
     }
 

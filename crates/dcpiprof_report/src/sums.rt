@@ -2,6 +2,7 @@
 ghost use Rattle.std.specs.Prelude.{◌≡◌, ◌<◌, ◌≤◌, ◌+◌, ◌^◌, Bool, true, if◌then◌else◌, is_some, sum_by, IfOk, OnOk};
 ghost use Rattle.std.specs.Option.{option_copied};
 ghost use Rattle.report_text.specs.declared.labels.Label.{Label};
+ghost use Rattle.report_text.specs.declared.labels.Label.TheVariants.{Unknown};
 ghost use Rattle.report_text.specs.Labels.{is_listed};
 ghost use Rattle.dcpiprof_report.specs.Counting.{counted_where, label_at, name_in, titled};
 ghost use Rattle.dcpiprof_report.specs.Sums.{AreSums, Grows, KeepsTies, held, held_in_all};
@@ -92,8 +93,25 @@ fn add_run(
     add(sums, label, run.count)
 }
 
-/// Adds a count under a label.
-pub(crate) fn add(
+/// Adds what unknown samples count.
+pub(crate) fn add_unknown(
+    sums: &mut BTreeMap<Label, u128>,
+    count: u128,
+) -> Result<(), AllocError>
+    requires { held_in_all sums.old.entries + count < 2 ^ 128 }
+    ensures counts { OnOk result (Grows sums.old.entries sums.new.entries
+        (λ test. if test Unknown then count else 0)) }
+    ensures labels { OnOk result ((procedures : Bool) →
+        AreSums procedures sums.old.entries → AreSums procedures sums.new.entries) }
+{
+    if count == 0 {
+        return Ok(());
+    }
+    add(sums, Label::Unknown, count)
+}
+
+// Adds a count under a label.
+fn add(
     sums: &mut BTreeMap<Label, u128>,
     label: Label,
     count: u128,
