@@ -55,7 +55,7 @@ module _ {K : Type 0} {R : K → K → Ordering} (o : IsTotalOrder R) (test : K 
       let found : lookup (is_at (R k)) (e ∷ es) ≡ lookup (is_at (R k)) es = rw is refl in
       let rest = others (value ∙ ap (λ o'. unwrap_or o' 0 + n) found) in
       let counted : passing test (e ∷ insert_entry R es k v) ≡ passing test (e ∷ es) + cond (test k) n 0 = kept (if_passes test e) (passing test (e ∷ insert_entry R es k v)) (passing test (e ∷ es)) (passing test es) (passing test (insert_entry R es k v)) (cond (test k) n 0)
-          (sum_by-cons (if_passes test) e (insert_entry R es k v)) (sum_by-cons (if_passes test) e es) rest in
+      (sum_by-cons (if_passes test) e (insert_entry R es k v)) (sum_by-cons (if_passes test) e es) rest in
       rw is counted
 
   -- one entry more, or one that counts more

@@ -38,13 +38,13 @@ to_one : (last k a : ℕ) (fits : Bool) → k ≤ last → sum_to last (λ e. co
 to_one zero k a fits within = this_epoch k 0 a fits (grind arith)
 to_one (suc last) k a fits within = ⊎_elim
     (λ is.
-      let before = to_past last k a fits (omega arith) in
-      let here = this_epoch k (suc last) a fits (grind arith) in
-      omega arith)
+    let before = to_past last k a fits (omega arith) in
+    let here = this_epoch k (suc last) a fits (grind arith) in
+    omega arith)
     (λ apart.
-      let before = to_one last k a fits (omega arith) in
-      let here = other_epoch k (suc last) a fits (grind arith) in
-      omega arith)
+    let before = to_one last k a fits (omega arith) in
+    let here = other_epoch k (suc last) a fits (grind arith) in
+    omega arith)
     (cases_eq k (suc last))
 
 pub over_zero : (epochs : Epochs) (last : ℕ) (f : ℕ → ℕ) → ((e : ℕ) → f e ≡ 0) → sum_over epochs last f ≡ 0

@@ -76,6 +76,7 @@ strictly_sorted (row ∷ rows) sorted apart =
     size : (l : List Row) → length (map label_in l) ≡ length l
     size [] = refl
     size (x ∷ l) = ap suc (size l)
+
     apart_at : (k : ℕ) → k + 1 < length (row ∷ rows) → same_label (get_or (row ∷ rows) k row).label (get_or (row ∷ rows) (k + 1) row).label ≡ false
     apart_at k within =
         rw (sym (label_place (row ∷ rows) k row), sym (label_place (row ∷ rows) (k + 1) row))

@@ -71,9 +71,9 @@ not_both b one other = absurd (wrong (sym one ∙ other))
 other_image : (label other : Label) → bytes_eq (image_of other) (image_of label) ≡ false → same_label label other ≡ false
 other_image label other apart = ⊎_elim
     (λ tied.
-      let images : bytes_eq (image_of label) (image_of other) ≡ true = sym (is_eq-slice_cmp (image_of label) (image_of other)) ∙ tied_parts (nat_cmp (last_of label) (last_of other)) (slice_cmp nat_cmp (image_of label) (image_of other)) _ tied in
-      let is : image_of label ≡ image_of other = (bytes_eq-Decides (image_of label) (image_of other)).0 images in
-      not_both (bytes_eq (image_of other) (image_of label)) ((bytes_eq-Decides (image_of other) (image_of label)).1 (sym is)) apart)
+    let images : bytes_eq (image_of label) (image_of other) ≡ true = sym (is_eq-slice_cmp (image_of label) (image_of other)) ∙ tied_parts (nat_cmp (last_of label) (last_of other)) (slice_cmp nat_cmp (image_of label) (image_of other)) _ tied in
+    let is : image_of label ≡ image_of other = (bytes_eq-Decides (image_of label) (image_of other)).0 images in
+    not_both (bytes_eq (image_of other) (image_of label)) ((bytes_eq-Decides (image_of other) (image_of label)).1 (sym is)) apart)
     (λ not_so. not_so)
     (cases_Bool (same_label label other))
 
@@ -108,9 +108,9 @@ not_named names name m none within = none_at (λ held. bytes_eq held name) names
 differ : (names : List (List ℕ)) (name : List ℕ) (a b : ℕ) → IsDistinct bytes_eq names → a < b → b < length names → bytes_eq (text_at names a) name ≡ true → bytes_eq (text_at names b) name ≡ false
 differ names name a b apart less within here = ⊎_elim
     (λ also.
-      let one : text_at names a ≡ name = (bytes_eq-Decides (text_at names a) name).0 here in
-      let two : text_at names b ≡ name = (bytes_eq-Decides (text_at names b) name).0 also in
-      not_both (bytes_eq (text_at names a) (text_at names b)) ((bytes_eq-Decides (text_at names a) (text_at names b)).1 (one ∙ sym two)) (apart_from_distinct bytes_eq names a b [] apart less within))
+    let one : text_at names a ≡ name = (bytes_eq-Decides (text_at names a) name).0 here in
+    let two : text_at names b ≡ name = (bytes_eq-Decides (text_at names b) name).0 also in
+    not_both (bytes_eq (text_at names a) (text_at names b)) ((bytes_eq-Decides (text_at names a) (text_at names b)).1 (one ∙ sym two)) (apart_from_distinct bytes_eq names a b [] apart less within))
     (λ not_so. not_so)
     (cases_Bool (bytes_eq (text_at names b) name))
 
@@ -121,11 +121,11 @@ is_named names name n m apart place within =
     ⊎_elim
     (λ is. let same : eqb n m ≡ true = grind arith in same ∙ sym (ap (λ k. bytes_eq (text_at names k) name) (sym is) ∙ found.1))
     (λ other.
-      let apart_is : eqb n m ≡ false = grind arith in
-      apart_is ∙ sym (⊎_elim
-      (λ before. not_first m before (found.2 m before))
-      (λ after. differ names name n m apart (omega arith) within found.1)
-      (cases_lt m n)))
+    let apart_is : eqb n m ≡ false = grind arith in
+    apart_is ∙ sym (⊎_elim
+    (λ before. not_first m before (found.2 m before))
+    (λ after. differ names name n m apart (omega arith) within found.1)
+    (cases_lt m n)))
     (cases_eq n m)
   where
     not_first : (m : ℕ) → m < n → bytes_eq (get_or names m []) name ≡ false → bytes_eq (text_at names m) name ≡ false
@@ -313,8 +313,8 @@ module _ (files : Files) (symbols : Option (List Symbol)) (epochs : Epochs) (eve
       let known = known_part head sound (place_of (image_of label) head.names) refl in
       let unknown = unknown_part head sound in
       let split = over_add epochs head.epoch
-          (λ e. of_file (at_image (place_of (image_of label) head.names) (λ image. known_at files (known_row head.known e image event))))
-          (λ e. counted_where (same_label label) (λ pc. Unknown) (rows_or_none (unknown_at files (unknown_row head.unknown e event)))) in
+      (λ e. of_file (at_image (place_of (image_of label) head.names) (λ image. known_at files (known_row head.known e image event))))
+      (λ e. counted_where (same_label label) (λ pc. Unknown) (rows_or_none (unknown_at files (unknown_row head.unknown e event)))) in
       split ∙ added known unknown
     where
       added : {a b c d : ℕ} → a ≡ c → b ≡ d → a + b ≡ c + d

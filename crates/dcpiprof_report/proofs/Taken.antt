@@ -3,7 +3,9 @@ use Rattle.std.proofs.Common.{arith, ◌≡◌, ℕ, suc, zero, ◌+◌, ◌-◌
 use Rattle.std.specs.Prelude.{filter, find, is_none, sum_by, slice_get, slice_index_or}
 use Rattle.std.proofs.Math.Nat.{mul-le-mul_right}
 use Rattle.std.proofs.lemmas.List.Sums.{sum_by-cons}
-use Rattle.std.proofs.lemmas.List.{at_drop_more, at_drop_all}
+use Rattle.std.proofs.lemmas.List.{at_drop_more, at_drop_all, get_or_default}
+use Rattle.std.proofs.lemmas.List.Folds.{find-append}
+use Rattle.std.specs.Option.{option_or}
 use Rattle.std.proofs.lemmas.Option.{slice_get-get_or, get_or_from_slice_get}
 use Rattle.store_io.specs.Files.{Files}
 use Rattle.store_io.specs.FileNames.{file_name}
@@ -190,3 +192,17 @@ found_here {R} {before} {same} order (x ∷ rows) row (suc i) rising within here
         leads : IsOrder before same → (x y : R) (rows : List R) → before x y ≡ true → is_before_first before y rows ≡ true → is_before_first before x rows ≡ true
         leads order x y [] first next = refl
         leads order x y (z ∷ rows) first next = order.beyond x y z first next
+
+pub here_is : {R : Type 0} (rows : List R) (i : ℕ) (d : R) → i < length rows → get_or rows i d ≡ get_or rows i (get_or rows i d)
+here_is rows i d within = get_or_default rows i d (get_or rows i d) within
+
+-- ---- known rows, then unknown ones
+
+pub first_of_both : (files : Files) (a b : List FileRef) (file : FileRef) → first_bad files a ≡ Some file → first_bad files (a ++ b) ≡ Some file
+first_of_both files a b file is = find-append (is_bad files) a b ∙ ap (λ o. option_or o (first_bad files b)) is
+
+pub good_of_both : (files : Files) (a b : List FileRef) → first_bad files a ≡ None → first_bad files (a ++ b) ≡ first_bad files b
+good_of_both files a b is = find-append (is_bad files) a b ∙ ap (λ o. option_or o (first_bad files b)) is
+
+pub both_counted : (none mid all known unknown : ℕ) → none ≡ 0 → mid ≡ none + known → all ≡ mid + unknown → all ≡ known + unknown
+both_counted none mid all known unknown p q r = omega arith

@@ -42,7 +42,7 @@ impl Query<'_> {
         ensures told { (files : Files) → D.files store.old ≡ Some files →
             Gives (first_bad files (wanted (head_of self.now.db.now) self.now.epochs (code_of self.now.event)))
             (λ sums. Counts files (head_of self.now.db.now) (option_copied self.now.symbols) self.now.epochs
-                (code_of self.now.event) sums.entries)
+            (code_of self.now.event) sums.entries)
             result }
         ensures small { IfOk result (λ sums. held_in_all sums.entries < 2 ^ 128) }
         ensures labels { IfOk result (λ sums. AreSums (is_some self.now.symbols) sums.entries) }
@@ -68,7 +68,7 @@ impl Query<'_> {
         ensures told { (files : Files) → D.files store.old ≡ Some files →
             Gives (first_bad files (known_wanted self.now.epochs (code_of self.now.event) (head_of self.now.db.now).known))
             (λ _. Grows sums.old.entries sums.new.entries
-                (λ test. known_counts files (head_of self.now.db.now) (option_copied self.now.symbols) self.now.epochs (code_of self.now.event) test))
+            (λ test. known_counts files (head_of self.now.db.now) (option_copied self.now.symbols) self.now.epochs (code_of self.now.event) test))
             result }
         ensures room { OnOk result (held_in_all sums.new.entries
             ≤ held_in_all sums.old.entries + length (head_of self.now.db.now).known * most_counted) }
@@ -96,7 +96,7 @@ impl Query<'_> {
         ensures told { (files : Files) → D.files store.old ≡ Some files →
             Gives (first_bad files (unknown_wanted self.now.epochs (code_of self.now.event) (head_of self.now.db.now).unknown))
             (λ _. Grows sums.old.entries sums.new.entries
-                (λ test. unknown_counts files (head_of self.now.db.now) self.now.epochs (code_of self.now.event) test))
+            (λ test. unknown_counts files (head_of self.now.db.now) self.now.epochs (code_of self.now.event) test))
             result }
         ensures room { OnOk result (held_in_all sums.new.entries
             ≤ held_in_all sums.old.entries + length (head_of self.now.db.now).unknown * most_counted) }

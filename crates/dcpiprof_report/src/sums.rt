@@ -94,10 +94,7 @@ fn add_run(
 }
 
 /// Adds what unknown samples count.
-pub(crate) fn add_unknown(
-    sums: &mut BTreeMap<Label, u128>,
-    count: u128,
-) -> Result<(), AllocError>
+pub(crate) fn add_unknown(sums: &mut BTreeMap<Label, u128>, count: u128) -> Result<(), AllocError>
     requires { held_in_all sums.old.entries + count < 2 ^ 128 }
     ensures counts { OnOk result (Grows sums.old.entries sums.new.entries
         (λ test. if test Unknown then count else 0)) }
@@ -111,11 +108,7 @@ pub(crate) fn add_unknown(
 }
 
 // Adds a count under a label.
-fn add(
-    sums: &mut BTreeMap<Label, u128>,
-    label: Label,
-    count: u128,
-) -> Result<(), AllocError>
+fn add(sums: &mut BTreeMap<Label, u128>, label: Label, count: u128) -> Result<(), AllocError>
     requires room { held_in_all sums.old.entries + count < 2 ^ 128 }
     requires some { 0 < count }
     ensures counts { OnOk result (Grows sums.old.entries sums.new.entries

@@ -9,6 +9,6 @@ use Rattle.dcpiprof_report.proofs.sums.add_rows.Given as goal
 abbrev pub invariant-loop-row : goal.invariant-loop-row
 invariant-loop-row l = record {
   counts : (test : Label → Bool) → KeepsTies test → held test l.sums.entries + cond (test (titled (option_copied l.symbols) l.image (option_copied l.run.name))) l.run.count 0 + counted_where test (label_at (option_copied l.symbols) l.image) (drop l.row-index l.rows)
-  ≡ held test l.initial.sums.entries + counted_where test (label_at (option_copied l.symbols) l.image) l.rows;
+      ≡ held test l.initial.sums.entries + counted_where test (label_at (option_copied l.symbols) l.image) l.rows;
   labels : AreSums (is_some l.symbols) l.initial.sums.entries → AreSums (is_some l.symbols) l.sums.entries;
 }
