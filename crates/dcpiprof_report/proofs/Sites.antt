@@ -1,6 +1,6 @@
 -- What a database holds under a label is what the rows of its head count.
 use Rattle.std.proofs.Common.{arith, ◌≡◌, ℕ, ◌+◌, ◌<◌, ◌≤◌, zero, suc, ◌&&◌, Bool, true, false, cond, eqb, List, [], ◌∷◌, None, Some, Option, length, get_or, refl, sym, ap, ◌∙◌, subst, ⊎_elim}
-use Rattle.std.specs.Prelude.{find, sum_by, position, nat_le, nat_lt}
+use Rattle.std.specs.Prelude.{find, sum_by, nat_le, nat_lt}
 use Rattle.std.specs.declared.cmp.Ordering.{Ordering}
 use Rattle.std.specs.declared.cmp.Ordering.TheVariants.{Less, Equal, Greater}
 use Rattle.std.specs.Ordering.{is_eq, nat_cmp, ordering_then}
@@ -15,15 +15,14 @@ use Rattle.std.proofs.lemmas.Map.Keys.{apart_from_distinct}
 use Rattle.std.proofs.lemmas.Map.Text.{is_eq-slice_cmp}
 use Rattle.std.proofs.lemmas.Slice.Eq.{bytes_eq-Decides}
 use Rattle.store_io.specs.Files.{Files}
-use Rattle.store_io.specs.FileNames.{file_name}
-use Rattle.image_catalog.specs.Images.{place_of, text_at, AreImages}
+use Rattle.image_catalog.specs.Images.{place_of, text_at}
 use Rattle.image_catalog.proofs.Places.{absent}
 use Rattle.symbol_ranges.specs.declared.symbols.Symbol.{Symbol}
 use Rattle.database_model.specs.declared.profiles.ProfileRow.{ProfileRow}
 use Rattle.database_state.specs.declared.rows.KnownRow.{KnownRow}
 use Rattle.database_state.specs.declared.rows.UnknownRow.{UnknownRow}
-use Rattle.database_state.specs.Rows.{known_before, known_same, known_place, known_row, known_ref, unknown_before, unknown_same, unknown_place, unknown_row, unknown_ref, is_before_first, is_rising, is_known_row, is_unknown_row}
-use Rattle.database_state.specs.Heads.{Head, IsHead, is_in_range, row_count, empty_head}
+use Rattle.database_state.specs.Rows.{known_before, known_same, known_place, known_row, known_ref, unknown_before, unknown_same, unknown_place, unknown_row, is_before_first, is_rising, is_known_row, is_unknown_row}
+use Rattle.database_state.specs.Heads.{Head, IsHead, row_count, empty_head}
 use Rattle.database_state.specs.Updates.{at_image}
 use Rattle.database_state.specs.Standing.{HaveHead, database_of, known_at, unknown_at}
 use Rattle.epoch_store.specs.Orders.{IsOrder}
@@ -31,12 +30,12 @@ use Rattle.epoch_store.proofs.Order.{none_before, and_first, and_second}
 use Rattle.epoch_store.proofs.RowOrders.{known_order, unknown_order}
 use Rattle.report_text.specs.declared.epochs.Epochs.{Epochs}
 use Rattle.report_text.specs.declared.labels.Label.{Label}
-use Rattle.report_text.specs.declared.labels.Label.TheVariants.{Image, Procedure, NoSymbol, Unknown}
-use Rattle.report_text.specs.Labels.{image_of, last_of, label_cmp, same_label}
+use Rattle.report_text.specs.declared.labels.Label.TheVariants.{Unknown}
+use Rattle.report_text.specs.Labels.{image_of, last_of, same_label}
 use Rattle.report_text.specs.Orders.{label_total}
-use Rattle.dcpiprof_report.specs.Counting.{counted, counted_in, counted_where, label_at, titled, name_in, rows_or_none, sum_over}
-use Rattle.dcpiprof_report.specs.Reading.{is_chosen, is_known_wanted, is_unknown_wanted}
-use Rattle.dcpiprof_report.specs.Sums.{KeepsTies, Counts, held, known_count, known_counts, unknown_count, unknown_counts, told_rows}
+use Rattle.dcpiprof_report.specs.Counting.{counted, counted_where, label_at, titled, name_in, rows_or_none, sum_over}
+use Rattle.dcpiprof_report.specs.Reading.{is_chosen}
+use Rattle.dcpiprof_report.specs.Sums.{KeepsTies, Counts, held, known_count, known_counts, unknown_counts, told_rows}
 use Rattle.dcpiprof_report.proofs.EpochSums.{AreApart, over_rows, over_add, over_zero}
 
 -- ---- labels and images

@@ -1,7 +1,6 @@
 -- One file more: what it says, and what it adds.
-use Rattle.std.proofs.Common.{arith, ◌≡◌, ℕ, suc, zero, ◌+◌, ◌-◌, ◌*◌, ◌^◌, ◌<◌, ◌≤◌, ◌&&◌, Bool, true, false, cond, List, [], ◌∷◌, ◌++◌, None, Some, Option, Result, Ok, Err, length, map, drop, get_or, refl, sym, ap, ◌∙◌, subst}
-use Rattle.std.specs.Prelude.{filter, find, is_none, sum_by, slice_get, slice_index_or}
-use Rattle.std.proofs.Math.Nat.{mul-le-mul_right}
+use Rattle.std.proofs.Common.{arith, ◌≡◌, ℕ, suc, zero, ◌+◌, ◌*◌, ◌^◌, ◌<◌, ◌≤◌, Bool, true, false, cond, List, [], ◌∷◌, ◌++◌, None, Some, Option, Ok, Err, length, map, drop, get_or, refl, sym, ap, ◌∙◌, subst}
+use Rattle.std.specs.Prelude.{filter, find, is_none, sum_by, slice_get}
 use Rattle.std.proofs.lemmas.List.Sums.{sum_by-cons}
 use Rattle.std.proofs.lemmas.List.{at_drop_more, at_drop_all, get_or_default}
 use Rattle.std.proofs.lemmas.List.Folds.{find-append}
@@ -24,7 +23,7 @@ use Rattle.epoch_store.specs.Reading.{ReadsRow, IsUnread}
 use Rattle.report_text.specs.declared.labels.Label.{Label}
 use Rattle.report_text.specs.declared.labels.Label.TheVariants.{Unknown}
 use Rattle.dcpiprof_report.specs.Counting.{counted_where, rows_or_none}
-use Rattle.dcpiprof_report.specs.Reading.{is_bad, first_bad, IsStopped, Gives}
+use Rattle.dcpiprof_report.specs.Reading.{is_bad, first_bad, IsStopped}
 use Rattle.dcpiprof_report.specs.Sums.{KeepsTies, Grows, held, held_in_all, told_rows, bad_one, most_counted}
 
 -- ---- what reading a file says

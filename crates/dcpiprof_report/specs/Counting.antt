@@ -1,5 +1,5 @@
 -- What a listing counts: how much a database holds under each label.
-use Rattle.std.specs.Prelude.{ℕ, zero, suc, ◌+◌, ◌==◌, Bool, true, if◌then◌else◌, List, [], ◌∷◌, Some, None, sum_by}
+use Rattle.std.specs.Prelude.{ℕ, zero, suc, ◌+◌, Bool, if◌then◌else◌, List, [], Some, None, sum_by}
 use Rattle.std.specs.declared.option.Option.{Option}
 use Rattle.symbol_ranges.specs.declared.symbols.Symbol.{Symbol}
 use Rattle.symbol_ranges.specs.Lines.{named}

@@ -1,5 +1,5 @@
 -- Which files a listing reads, in the order of the head, and what it answers where one of them is bad.
-use Rattle.std.specs.Prelude.{◌≡◌, ℕ, ◌==◌, ◌&&◌, Bool, true, is_none, List, [], ◌∷◌, ◌++◌, map, filter, find, Some, None, Ok, Err}
+use Rattle.std.specs.Prelude.{◌≡◌, ℕ, ◌==◌, ◌&&◌, Bool, true, is_none, List, ◌++◌, map, filter, find, Some, None, Ok, Err}
 use Rattle.std.specs.declared.option.Option.{Option}
 use Rattle.std.specs.declared.result.Result.{Result}
 use Rattle.store_io.specs.Files.{Files}

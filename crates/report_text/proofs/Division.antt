@@ -1,6 +1,6 @@
 -- Long division, one digit and one addition at a time.
-use Rattle.std.proofs.Common.{arith, ◌≡◌, ℕ, suc, ◌+◌, ◌-◌, ◌*◌, ◌/◌, ◌%◌, ◌^◌, ◌<◌, ◌≤◌, refl, sym, ap, ◌∙◌}
-use Rattle.std.proofs.Math.Nat.{add-mul, mul-add, mul_assoc, pow-succ', zero-mul}
+use Rattle.std.proofs.Common.{arith, ◌≡◌, ℕ, suc, ◌+◌, ◌*◌, ◌/◌, ◌%◌, ◌^◌, ◌<◌, ◌≤◌, sym, ap, ◌∙◌}
+use Rattle.std.proofs.Math.Nat.{add-mul, mul_assoc, pow-succ', zero-mul}
 use Rattle.std.proofs.lemmas.Nat.{div-mul-add, div-add-mod'}
 
 pub none_yet : (total part : ℕ) → 0 * total + 0 ≡ 0 * part

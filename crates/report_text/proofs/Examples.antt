@@ -5,7 +5,7 @@ use Rattle.std.specs.Fmt.{digits}
 use Rattle.std.specs.List.{flat_map}
 use Rattle.std.specs.declared.cmp.Ordering.TheVariants.{Less}
 use Rattle.csv.specs.Writing.{escaped, fields_text, is_blank}
-use Rattle.sample_key.specs.declared.events.Event.TheVariants.{Cycles, Imiss}
+use Rattle.sample_key.specs.declared.events.Event.TheVariants.{Cycles}
 use Rattle.report_text.specs.declared.epochs.Epochs.TheVariants.{All, One}
 use Rattle.report_text.specs.declared.labels.Label.{Label}
 use Rattle.report_text.specs.declared.labels.Label.TheVariants.{Image, Procedure, NoSymbol, Unknown}
@@ -29,14 +29,14 @@ images = record {
 }
 
 by_image : report_text images All Cycles ≡ lines (
-  codes "cycles epoch all total 39"
-  ∷ codes "          13  33.33  33.33 /usr/bin/X"
-  ∷ codes "          12  30.76  64.10 /usr/shlib/libc.so"
-  ∷ codes "           5  12.82  76.92 /usr/bin/cc"
-  ∷ codes "           5  12.82  89.74 /vmunix"
-  ∷ codes "           3   7.69  97.43 /usr/bin/sh"
-  ∷ codes "           1   2.56 100.00 (unknown profile)"
-  ∷ [])
+    codes "cycles epoch all total 39"
+    ∷ codes "          13  33.33  33.33 /usr/bin/X"
+    ∷ codes "          12  30.76  64.10 /usr/shlib/libc.so"
+    ∷ codes "           5  12.82  76.92 /usr/bin/cc"
+    ∷ codes "           5  12.82  89.74 /vmunix"
+    ∷ codes "           3   7.69  97.43 /usr/bin/sh"
+    ∷ codes "           1   2.56 100.00 (unknown profile)"
+    ∷ [])
 unfolding digits row lines images
 by_image = refl
 
@@ -48,15 +48,15 @@ procedures = record {
 }
 
 by_procedure : report_text procedures All Cycles ≡ lines (
-  codes "cycles epoch all total 39"
-  ∷ codes "          12  30.76  30.76 strcmp /usr/shlib/libc.so"
-  ∷ codes "          10  25.64  56.41 dispatch /usr/bin/X"
-  ∷ codes "           5  12.82  69.23 parse /usr/bin/cc"
-  ∷ codes "           5  12.82  82.05 idle /vmunix"
-  ∷ codes "           3   7.69  89.74 (no symbol) /usr/bin/X"
-  ∷ codes "           3   7.69  97.43 main /usr/bin/sh"
-  ∷ codes "           1   2.56 100.00 (unknown profile)"
-  ∷ [])
+    codes "cycles epoch all total 39"
+    ∷ codes "          12  30.76  30.76 strcmp /usr/shlib/libc.so"
+    ∷ codes "          10  25.64  56.41 dispatch /usr/bin/X"
+    ∷ codes "           5  12.82  69.23 parse /usr/bin/cc"
+    ∷ codes "           5  12.82  82.05 idle /vmunix"
+    ∷ codes "           3   7.69  89.74 (no symbol) /usr/bin/X"
+    ∷ codes "           3   7.69  97.43 main /usr/bin/sh"
+    ∷ codes "           1   2.56 100.00 (unknown profile)"
+    ∷ [])
 unfolding digits row lines procedures
 by_procedure = refl
 

@@ -1,5 +1,4 @@
 -- The laws of the two orders.
-use Rattle.std.specs.Ordering.{nat_cmp, then_cmp, on, flip_args}
 use Rattle.std.specs.Cmp.{IsTotalOrder}
 use Rattle.std.proofs.lemmas.Cmp.{nat_cmp_total, nat_list_cmp_total, on_total, then_total, back_total}
 use Rattle.report_text.specs.declared.rows.Row.{Row}

@@ -1,4 +1,4 @@
-use Rattle.std.proofs.Common.{◌≡◌, true, false, None, Some, ◌∙◌}
+use Rattle.std.proofs.Common.{true, Some, ◌∙◌}
 use Rattle.sample_key.specs.Events.{code_of}
 use Rattle.epoch_store.specs.Databases.{head_of}
 use Rattle.dcpiprof_report.proofs.Sites.{holds}

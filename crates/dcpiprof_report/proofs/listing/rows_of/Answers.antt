@@ -1,4 +1,4 @@
-use Rattle.std.proofs.Common.{◌≡◌, ◌∙◌}
+use Rattle.std.proofs.Common.{◌∙◌}
 use Rattle.dcpiprof_report.proofs.Listings.{adds_up, apart_sorted, in_order, listed_held, values_held}
 use Rattle.dcpiprof_report.proofs.listing.rows_of.Goals as goal
 

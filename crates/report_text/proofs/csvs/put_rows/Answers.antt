@@ -1,7 +1,7 @@
-use Rattle.std.proofs.Common.{arith, ◌≡◌, ◌+◌, ◌<◌, length, ◌∙◌}
+use Rattle.std.proofs.Common.{arith}
 use Rattle.csv.specs.Writing.{text_written}
 use Rattle.report_text.specs.Csvs.{records_after}
-use Rattle.report_text.proofs.Lines.{sum_of, sum_taken, record_taken, all_written}
+use Rattle.report_text.proofs.Lines.{sum_taken, record_taken}
 use Rattle.report_text.proofs.csvs.put_rows.Goals as goal
 
 pub overflow_add-up_to : goal.overflow_add-up_to

@@ -1,4 +1,3 @@
-use Rattle.std.proofs.Common.{rules}
 use Rattle.report_text.proofs.csvs.put_unknown.Goals as goal
 
 pub returns-then-procedures-clause-bytes : goal.returns-then-procedures-clause-bytes

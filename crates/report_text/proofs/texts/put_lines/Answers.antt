@@ -1,5 +1,5 @@
-use Rattle.std.proofs.Common.{arith, ◌≡◌, ◌+◌, ◌<◌, length, ◌∙◌}
-use Rattle.report_text.proofs.Lines.{sum_of, sum_taken, some_here}
+use Rattle.std.proofs.Common.{arith}
+use Rattle.report_text.proofs.Lines.{sum_taken, some_here}
 use Rattle.report_text.proofs.texts.put_lines.Goals as goal
 
 pub overflow_add-up_to : goal.overflow_add-up_to

@@ -1,12 +1,10 @@
-use Rattle.std.proofs.Common.{arith, ◌≡◌, ℕ, ◌<◌, ◌≤◌, List, Some, length, subst, ◌∙◌}
+use Rattle.std.proofs.Common.{arith, ◌≡◌, ◌<◌, ◌≤◌, List, Some, length, subst, ◌∙◌}
 use Rattle.std.specs.Prelude.{slice_index_or}
-use Rattle.std.specs.Option.{option_copied}
 use Rattle.std.proofs.lemmas.Result.{err_from_is_err_and}
 use Rattle.store_io.proofs.Chains.{reads_then}
 use Rattle.sample_key.specs.Events.{code_of}
 use Rattle.database_state.specs.declared.rows.UnknownRow.{UnknownRow}
 use Rattle.database_state.specs.Rows.{unknown_row, unknown_ref}
-use Rattle.epoch_store.specs.Databases.{head_of}
 use Rattle.epoch_store.proofs.RowOrders.{unknown_order}
 use Rattle.dcpiprof_report.specs.Reading.{is_unknown_wanted}
 use Rattle.dcpiprof_report.specs.Sums.{unknown_count}

@@ -1,17 +1,14 @@
-use Rattle.std.proofs.Common.{arith, ◌≡◌, ℕ, ◌+◌, ◌≤◌, true, cond, List, Some, None, sym, ap, subst, ◌∙◌}
-use Rattle.std.specs.Prelude.{is_some, slice_get}
-use Rattle.std.specs.Option.{option_copied}
+use Rattle.std.proofs.Common.{arith, ◌≡◌, ℕ, ◌+◌, cond, List, Some, sym, ap, subst, ◌∙◌}
+use Rattle.std.specs.Prelude.{is_some}
 use Rattle.std.proofs.lemmas.Result.{err_from_is_err_and}
 use Rattle.sample_key.specs.Events.{code_of}
-use Rattle.image_catalog.specs.Images.{text_at}
 use Rattle.database_model.specs.declared.profiles.ProfileRow.{ProfileRow}
 use Rattle.database_state.specs.Rows.{unknown_row, unknown_ref}
 use Rattle.epoch_store.specs.Databases.{head_of}
-use Rattle.report_text.specs.declared.labels.Label.{Label}
 use Rattle.report_text.specs.declared.labels.Label.TheVariants.{Unknown}
-use Rattle.dcpiprof_report.specs.Counting.{counted_where, label_at}
+use Rattle.dcpiprof_report.specs.Counting.{counted_where}
 use Rattle.dcpiprof_report.specs.Sums.{held, most_counted, told_rows}
-use Rattle.dcpiprof_report.proofs.Taken.{stopped, read_ok, image_there, image_is, sum_in, sum_most, all_unknown, room_left}
+use Rattle.dcpiprof_report.proofs.Taken.{stopped, read_ok, sum_most, all_unknown, room_left}
 use Rattle.dcpiprof_report.proofs.queries.Query.add_unknown_row.Goals as goal
 
 pub returns-in_err-profile-clause-told : goal.returns-in_err-profile-clause-told
