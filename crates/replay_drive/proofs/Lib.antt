@@ -1,0 +1,3 @@
+-- The lemmas behind the answers.
+mod Playing
+mod Among

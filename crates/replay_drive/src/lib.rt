@@ -1,0 +1,7 @@
+//! The replay of a trace: the drivers of all processors and the daemon, on one thread, by the steps of the trace's schedule and
+//! then in rounds until the close is complete.
+#![tactic(auto)]
+
+mod players;
+
+pub use players::{turn_at, turn_of};
