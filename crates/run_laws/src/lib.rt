@@ -9,3 +9,4 @@ mod traces;
 pub use runs::{
     exact_runs_are_lossless, records_are_valid, records_can_be_stored, sides_are_sound, steps_go_on,
 };
+pub use traces::traces_are_fit;
