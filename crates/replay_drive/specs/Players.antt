@@ -9,7 +9,7 @@ use Rattle.lane_side.specs.Plain.{Plain}
 use Rattle.cpu_lane.specs.Seen.{Seen}
 use Rattle.cpu_lane.specs.Runs.{Runs}
 use Rattle.run_model.specs.Daemon.{Daemon}
-use Rattle.run_model.specs.Running.{Processor, System, setup_of, counts_of, after_turn}
+use Rattle.run_model.specs.Running.{Processor, System, setup_of, new_processor, counts_of, after_turn}
 
 -- a lane and its side, as a processor of a run
 abbrev pub processor_of : Seen → Plain → Processor
@@ -54,3 +54,9 @@ system_of daemon lanes sides =
 abbrev pub turned_at : Pace → Recording → System → ℕ → System
 turned_at pace trace system cpu =
     after_turn pace trace system cpu (slice_get system.processors cpu)
+
+-- a lane and its side are those of this processor at the start
+pub record StartsAt (pace : Pace) (trace : Recording) (cpu : ℕ) (lane : Seen) (side : Plain)
+    : Type 0 where
+  pub player : IsPlayer pace trace cpu lane side
+  pub new : processor_of lane side ≡ new_processor trace cpu

@@ -3,5 +3,7 @@
 #![tactic(auto)]
 
 mod players;
+mod starting;
 
 pub use players::{turn_at, turn_of};
+pub use starting::new_player;

@@ -1,0 +1,44 @@
+//! The drivers and sides of all processors at the start.
+ghost use Rattle.std.specs.Prelude.{◌≡◌, ◌<◌, length, IfOk};
+ghost use Rattle.sample_key.specs.declared.losses.Pace.TheVariants.{Free};
+ghost use Rattle.trace_model.specs.Traces.{recording_of};
+ghost use Rattle.trace_model.specs.Streams.{stream_of, streams_in, records_in};
+ghost use Rattle.run_model.specs.Running.{new_processor};
+ghost use Rattle.trace_cut.specs.Cutting.{lanes_in};
+ghost use Rattle.replay_drive.specs.Players.{StartsAt};
+
+use cpu_lane::{Lane, Plan};
+use lane_side::PlainSide;
+use run_laws::traces_are_fit;
+use sample_key::{Marked, Pace};
+use std::alloc::{AllocError, Global};
+use trace_laws::{limits_are_kept, sizes_are_kept};
+use trace_model::Trace;
+
+/// The lane and the side of a processor of a trace with these samples and so many records.
+pub fn new_player(
+    alloc: Global,
+    trace: &Trace,
+    records: usize,
+    cpu: u32,
+    samples: Vec<Marked>,
+) -> Result<(Lane, PlainSide), AllocError>
+    requires cpu { cpu < trace.now.cpus }
+    requires records { records ≡ length (records_in (recording_of trace.now)) }
+    requires samples { samples.items ≡ stream_of cpu (recording_of trace.now) }
+    ensures { IfOk result (λ player.
+        StartsAt Free (recording_of trace.now) cpu player.0 player.1) }
+{
+    traces_are_fit(trace);
+    sizes_are_kept(trace);
+    limits_are_kept(trace);
+    let plan = Plan {
+        pace: Pace::Free,
+        last: 2 * records as u64 + 1,
+        buffer: trace.buffer as usize,
+    };
+    let buckets = trace.buckets as usize;
+    let side = PlainSide::new(alloc, cpu, &samples, records + 1, buckets, plan.buffer)?;
+    let lane = Lane::new(alloc, cpu, samples, plan)?;
+    Ok((lane, side))
+}
