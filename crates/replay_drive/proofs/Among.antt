@@ -80,3 +80,29 @@ pub players_with : (pace : Pace) (trace : Recording) (ls : List Seen) (ss : List
     → IsPlayer pace trace cpu l s → ArePlayers pace trace 0 (slice_set ls cpu l) (slice_set ss cpu s)
 players_with pace trace ls ss cpu l s all one =
     players_set pace trace 0 ls ss cpu l s all (subst (λ (n : ℕ). IsPlayer pace trace n l s) (omega arith) one)
+
+-- the processors with another side at one place
+pub side_set : (ls : List Seen) (ss : List Plain) (k : ℕ) (l : Seen) (n : Plain) → slice_get ls k ≡ Some l
+    → processors_of ls (slice_set ss k n) ≡ slice_set (processors_of ls ss) k (processor_of l n)
+side_set [] ss k l n at = absurd cc
+side_set (x ∷ ls) [] k l n at = refl
+side_set (x ∷ ls) (y ∷ ss) zero l n at =
+    let one : x ≡ l = cc in ap {B = List Processor} (λ z. processor_of z n ∷ processors_of ls ss) one
+side_set (x ∷ ls) (y ∷ ss) (suc k) l n at = ap {B = List Processor} (λ z. processor_of x y ∷ z) (side_set ls ss k l n at)
+
+-- all players with another side at one place
+pub players_side : (pace : Pace) (trace : Recording) (cpu : ℕ) (ls : List Seen) (ss : List Plain) (k : ℕ) (l : Seen) (n : Plain) → ArePlayers pace trace cpu ls ss
+    → slice_get ls k ≡ Some l → IsPlayer pace trace (cpu + k) l n → ArePlayers pace trace cpu ls (slice_set ss k n)
+players_side pace trace cpu [] ss k l n all at one = absurd cc
+players_side pace trace cpu (x ∷ ls) [] k l n all at one = absurd all
+players_side pace trace cpu (x ∷ ls) (y ∷ ss) zero l n all at one =
+    let same : l ≡ x = cc in
+    (subst (λ (m : ℕ). IsPlayer pace trace m x n) (omega arith) (subst (λ (z : Seen). IsPlayer pace trace (cpu + 0) z n) same one), all.1)
+players_side pace trace cpu (x ∷ ls) (y ∷ ss) (suc k) l n all at one =
+    (all.0, players_side pace trace (cpu + 1) ls ss k l n all.1 at (subst (λ (m : ℕ). IsPlayer pace trace m l n) (omega arith) one))
+
+-- the element that was set
+pub set_got : {A : Type 0} (xs : List A) (k : ℕ) (y z : A) → slice_get xs k ≡ Some y → slice_get (slice_set xs k z) k ≡ Some z
+set_got [] k y z at = absurd cc
+set_got (x ∷ xs) zero y z at = refl
+set_got (x ∷ xs) (suc k) y z at = set_got xs k y z at

@@ -1,3 +1,4 @@
 -- The lemmas behind the answers.
 mod Playing
 mod Among
+mod Beginning

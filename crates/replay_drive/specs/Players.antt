@@ -1,5 +1,6 @@
 -- The drivers of all processors with their plain sides, as the processors of a run.
-use Rattle.std.specs.Prelude.{◌≡◌, ℕ, ◌+◌, false, length, slice_get, List, [], ◌∷◌, Some}
+use Rattle.std.specs.Prelude.{◌≡◌, ℕ, ◌+◌, false, length, slice_get, map, List, [], ◌∷◌, Some}
+use Rattle.std.specs.List.{range_with_len}
 use Rattle.sample_key.specs.declared.losses.Pace.{Pace}
 use Rattle.trace_model.specs.Recording.{Recording}
 use Rattle.trace_model.specs.Streams.{stream_of, records_in}
@@ -60,3 +61,9 @@ pub record StartsAt (pace : Pace) (trace : Recording) (cpu : ℕ) (lane : Seen) 
     : Type 0 where
   pub player : IsPlayer pace trace cpu lane side
   pub new : processor_of lane side ≡ new_processor trace cpu
+
+-- so many lanes and sides are those of the first processors at the start
+pub record AllStart (pace : Pace) (trace : Recording) (count : ℕ) (lanes : List Seen)
+    (sides : List Plain) : Type 0 where
+  pub players : ArePlayers pace trace 0 lanes sides
+  pub new : processors_of lanes sides ≡ map (new_processor trace) (range_with_len 0 count)

@@ -6,4 +6,4 @@ mod players;
 mod starting;
 
 pub use players::{turn_at, turn_of};
-pub use starting::new_player;
+pub use starting::{Players, new_player, new_players};

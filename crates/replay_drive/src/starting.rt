@@ -5,13 +5,14 @@ ghost use Rattle.trace_model.specs.Traces.{recording_of};
 ghost use Rattle.trace_model.specs.Streams.{stream_of, streams_in, records_in};
 ghost use Rattle.run_model.specs.Running.{new_processor};
 ghost use Rattle.trace_cut.specs.Cutting.{lanes_in};
-ghost use Rattle.replay_drive.specs.Players.{StartsAt};
+ghost use Rattle.replay_drive.specs.Players.{AllStart, StartsAt};
 
 use cpu_lane::{Lane, Plan};
 use lane_side::PlainSide;
 use run_laws::traces_are_fit;
 use sample_key::{Marked, Pace};
 use std::alloc::{AllocError, Global};
+use std::mem;
 use trace_laws::{limits_are_kept, sizes_are_kept};
 use trace_model::Trace;
 
@@ -41,4 +42,39 @@ pub fn new_player(
     let side = PlainSide::new(alloc, cpu, &samples, records + 1, buckets, plan.buffer)?;
     let lane = Lane::new(alloc, cpu, samples, plan)?;
     Ok((lane, side))
+}
+
+/// The lanes and the sides of all processors of a trace, by number.
+#[derive(Drop)]
+pub struct Players {
+    /// The lanes.
+    pub lanes: Vec<Lane>,
+    /// The side of each.
+    pub sides: Vec<PlainSide>,
+}
+
+/// The lanes and the sides of a trace with these streams of samples and so many records.
+pub fn new_players(
+    alloc: Global,
+    trace: &Trace,
+    records: usize,
+    streams: Vec<Vec<Marked>>,
+) -> Result<Players, AllocError>
+    requires records { records ≡ length (records_in (recording_of trace.now)) }
+    requires streams { lanes_in streams.items ≡ streams_in (recording_of trace.now) }
+    ensures { IfOk result (λ players.
+        AllStart Free (recording_of trace.now) trace.now.cpus players.lanes.items players.sides.items) }
+{
+    let mut streams = streams;
+    let mut players = Players {
+        lanes: Vec::new(alloc),
+        sides: Vec::new(alloc),
+    };
+    for cpu in 0..trace.cpus {
+        let samples = mem::replace(&mut streams[cpu as usize], Vec::new(alloc));
+        let (lane, side) = new_player(alloc, trace, records, cpu, samples)?;
+        players.lanes.push(lane)?;
+        players.sides.push(side)?;
+    }
+    Ok(players)
 }
