@@ -1,12 +1,12 @@
 -- One player among all.
 use Rattle.std.proofs.Common.{◌≡◌, refl, sym, ◌∙◌, ap, subst, ℕ, zero, suc, ◌+◌, ◌<◌, ◌≤◌, List, [], ◌∷◌, length, arith, Some, None, Option}
-use Rattle.std.specs.Prelude.{slice_get, slice_set}
+use Rattle.std.specs.Prelude.{slice_get, slice_set, map}
 use Rattle.sample_key.specs.declared.losses.Pace.{Pace}
 use Rattle.trace_model.specs.Recording.{Recording}
 use Rattle.lane_side.specs.Plain.{Plain}
 use Rattle.cpu_lane.specs.Seen.{Seen}
 use Rattle.run_model.specs.Running.{Processor}
-use Rattle.replay_drive.specs.Players.{ArePlayers, IsPlayer, processor_of, processors_of}
+use Rattle.replay_drive.specs.Players.{ArePlayers, DaemonsHalf, IsPlayer, half_of, processor_of, processors_of}
 
 -- there are as many sides as lanes
 pub as_many : (pace : Pace) (trace : Recording) (cpu : ℕ) (ls : List Seen) (ss : List Plain) → ArePlayers pace trace cpu ls ss → length ls ≡ length ss
@@ -106,3 +106,10 @@ pub set_got : {A : Type 0} (xs : List A) (k : ℕ) (y z : A) → slice_get xs k 
 set_got [] k y z at = absurd cc
 set_got (x ∷ xs) zero y z at = refl
 set_got (x ∷ xs) (suc k) y z at = set_got xs k y z at
+
+-- what a turn leaves of one side it leaves of all
+pub halves_set : (ss : List Plain) (k : ℕ) (s n : Plain) → slice_get ss k ≡ Some s → half_of n ≡ half_of s → map half_of (slice_set ss k n) ≡ map half_of ss
+halves_set [] k s n at same = absurd cc
+halves_set (x ∷ ss) zero s n at same =
+    let is : s ≡ x = cc in ap {B = List DaemonsHalf} (λ z. z ∷ map half_of ss) (same ∙ ap half_of is)
+halves_set (x ∷ ss) (suc k) s n at same = ap {B = List DaemonsHalf} (λ z. half_of x ∷ z) (halves_set ss k s n at same)

@@ -2,3 +2,11 @@
 mod Playing
 mod Among
 mod Beginning
+mod Waiting
+mod Polling
+mod PollStands
+mod Alike
+mod AdvanceStands
+mod TurnStands
+mod StoreKept
+mod PartsKept

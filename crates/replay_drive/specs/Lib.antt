@@ -1,2 +1,4 @@
 -- The definitions that the contracts of this crate cite.
 pub mod Players
+pub mod Standing
+pub mod Growing

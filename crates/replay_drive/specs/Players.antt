@@ -5,7 +5,7 @@ use Rattle.sample_key.specs.declared.losses.Pace.{Pace}
 use Rattle.trace_model.specs.Recording.{Recording}
 use Rattle.trace_model.specs.Streams.{stream_of, records_in}
 use Rattle.driver_model.specs.Handover.{FarSide}
-use Rattle.lane_side.specs.Fixed.{plain_fixed}
+use Rattle.lane_side.specs.Fixed.{Fixed, plain_fixed}
 use Rattle.lane_side.specs.Plain.{Plain}
 use Rattle.cpu_lane.specs.Seen.{Seen}
 use Rattle.cpu_lane.specs.Runs.{Runs}
@@ -22,6 +22,14 @@ processors_of [] sides = []
 processors_of (lane ∷ lanes) [] = []
 processors_of (lane ∷ lanes) (side ∷ sides) =
     processor_of lane side ∷ processors_of lanes sides
+
+-- what a turn leaves of a side: the daemon's half, and what no call changes
+pub record DaemonsHalf : Type 0 where
+  pub far : FarSide
+  pub fixed : Fixed
+
+abbrev pub half_of : Plain → DaemonsHalf
+half_of side = record { far = side.far; fixed = side.fixed }
 
 -- all that the daemon took was given back, and it holds nothing
 pub record IsGivenBack (far : FarSide) : Type 0 where

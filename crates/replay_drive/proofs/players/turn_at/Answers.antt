@@ -4,7 +4,7 @@ use Rattle.std.specs.Prelude.{slice_get, slice_set, List}
 use Rattle.std.proofs.lemmas.Option.{slice_get-get_or}
 use Rattle.run_model.specs.Running.{Processor, System, setup_of, turned, after_turn}
 use Rattle.replay_drive.specs.Players.{IsPlayer, processor_of, processors_of, system_of, turned_at}
-use Rattle.replay_drive.proofs.Among.{side_too, player_here, players_with, processors_set, processor_there, no_processor}
+use Rattle.replay_drive.proofs.Among.{side_too, player_here, players_with, processors_set, processor_there, no_processor, halves_set}
 use Rattle.replay_drive.proofs.Playing.{turned_system}
 use Rattle.replay_drive.proofs.players.turn_at.Goals as goal
 
@@ -36,3 +36,8 @@ returns-clause-players c = λ pace trace all.
     let side = slice_get-get_or c.args.sides.now c.args.cpu c.index-sides-at.result (side_too pace trace 0 c.args.lanes.now c.args.sides.now c.args.cpu all c.if-at-lanes.false) in
     let player = player_here pace trace c.args.lanes.now c.args.sides.now c.args.cpu _ _ all lane side in
     players_with pace trace c.args.lanes.now c.args.sides.now c.args.cpu _ _ all (c.turn_of.ensures.player pace trace c.args.cpu player)
+
+pub returns-clause-halves : goal.returns-clause-halves
+returns-clause-halves c =
+    let side = slice_get-get_or c.args.sides.now c.args.cpu c.index-sides-at.result (side_too _ _ 0 c.args.lanes.now c.args.sides.now c.args.cpu c.requires.2 c.if-at-lanes.false) in
+    halves_set c.args.sides.now c.args.cpu _ _ side c.turn_of.ensures.half
