@@ -41,15 +41,15 @@ pub record Went (done : Advancing) (d e : Collection) : Type 0 where
 some_none : {A B : Type 0} (o : Option A) (x : A) → o ≡ Some x → o ≡ None → B
 some_none o x e n = cc
 
-none_before : (o : Option DbFault) (x : Advanced) (n : Option DbFault) → FaultAfter o x n → n ≡ None → o ≡ None
+pub none_before : (o : Option DbFault) (x : Advanced) (n : Option DbFault) → FaultAfter o x n → n ≡ None → o ≡ None
 none_before None x n h none = refl
 none_before (Some f) x n h none = some_none n f h none
 
-is_none_none : (o : Option DbFault) → is_none o ≡ true → o ≡ None
+pub is_none_none : (o : Option DbFault) → is_none o ≡ true → o ≡ None
 is_none_none None e = refl
 is_none_none (Some f) e = absurd cc
 
-both_hold : (a b c : Bool) → (a && b && c) ≡ true → b ≡ true
+pub both_hold : (a b c : Bool) → (a && b && c) ≡ true → b ≡ true
 both_hold true true c e = refl
 both_hold true false c e = absurd cc
 both_hold false b c e = absurd cc

@@ -10,3 +10,5 @@ mod AdvanceStands
 mod TurnStands
 mod StoreKept
 mod PartsKept
+mod AdvanceStores
+mod StepsTaken

@@ -100,7 +100,7 @@ none_later records part n (d ∷ ds) lt all =
     (eqb_apart (part_of records d.at) part (λ e. omega (arith, at, lt, e)))
     ∙ none_later records part n ds lt all.1
 
-positions : (daemon : Daemon) (ds : List Drained) → AllOf (IsBefore daemon) ds → AllOf (λ d. d.at ≤ daemon.applied) ds
+pub positions : (daemon : Daemon) (ds : List Drained) → AllOf (IsBefore daemon) ds → AllOf (λ d. d.at ≤ daemon.applied) ds
 positions daemon [] all = tt
 positions daemon (d ∷ ds) all = (all.0.0, positions daemon ds all.1)
 

@@ -26,6 +26,14 @@ one_step trace first_epoch steps step going =
     steps_append Free trace (start trace first_epoch) steps (step ∷ [])
     ∙ cond-false now.daemon.finished now (acts Free trace now step) going
 
+-- and all that come after it
+pub all_from : (trace : Recording) (first_epoch : ℕ) (steps rest : List Step) (step : Step) → (run_so_far Free trace first_epoch steps).daemon.finished ≡ false
+    → run_so_far Free trace first_epoch (steps ++ step ∷ rest) ≡ after_steps Free trace (acts Free trace (run_so_far Free trace first_epoch steps) step) rest
+all_from trace first_epoch steps rest step going =
+    let now = run_so_far Free trace first_epoch steps in
+    steps_append Free trace (start trace first_epoch) steps (step ∷ rest)
+    ∙ ap (λ (s : System). after_steps Free trace s rest) (cond-false now.daemon.finished now (acts Free trace now step) going)
+
 -- once it is finished nothing happens
 pub no_step : (trace : Recording) (first_epoch : ℕ) (steps : List Step) (step : Step) → (run_so_far Free trace first_epoch steps).daemon.finished ≡ true
     → run_so_far Free trace first_epoch (steps ++ step ∷ []) ≡ run_so_far Free trace first_epoch steps

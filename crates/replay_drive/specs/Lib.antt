@@ -2,3 +2,4 @@
 pub mod Players
 pub mod Standing
 pub mod Growing
+pub mod Replaying

@@ -3,7 +3,9 @@
 #![tactic(auto)]
 
 mod players;
+mod replays;
 mod starting;
 
 pub use players::{turn_at, turn_of};
+pub use replays::Replay;
 pub use starting::{Players, new_player, new_players};

@@ -1,0 +1,110 @@
+-- What an advance leaves of the parts and of the store.
+use Rattle.std.proofs.Common.{◌≡◌, refl, sym, ◌∙◌, ap, subst, ℕ, zero, suc, ◌+◌, ◌<◌, ◌≤◌, List, [], ◌∷◌, ◌++◌, length, arith, Bool, true, false, if◌then◌else◌, Some, None, Option, ◌⊎◌, inl, inr}
+use Rattle.std.specs.Prelude.{is_none, take}
+use Rattle.sample_key.specs.declared.losses.Pace.TheVariants.{Free}
+use Rattle.trace_model.specs.Parts.{epoch_after}
+use Rattle.trace_model.specs.Recording.{Recording}
+use Rattle.trace_model.specs.Streams.{records_in}
+use Rattle.trace_model.specs.declared.notices.Step.{Step}
+use Rattle.driver_model.specs.Lists.{AllOf}
+use Rattle.database_model.specs.Runs.{Drained, Recorded}
+use Rattle.store_io.specs.Files.{Files}
+use Rattle.database_state.specs.Heads.{Head}
+use Rattle.database_state.specs.declared.faults.DbFault.{DbFault}
+use Rattle.lane_side.specs.Plain.{Plain}
+use Rattle.cpu_lane.specs.Seen.{Seen}
+use Rattle.run_model.specs.Daemon.{Advancing, Daemon}
+use Rattle.run_model.specs.Running.{System, after_advance, after_steps, record_of}
+use Rattle.run_model.specs.declared.advances.Advanced.{Advanced}
+use Rattle.run_laws.proofs.Systems.{SystemHolds}
+use Rattle.dcpid_core.specs.Advancing.{Advances, EndsPart, FaultAfter, MovesOn, Outcome, advance_of, commits}
+use Rattle.dcpid_core.specs.Counting.{AdvancesAsTheRun}
+use Rattle.dcpid_core.specs.Collection.{Collection}
+use Rattle.dcpid_core.specs.Parts.{part_in}
+use Rattle.replay_drive.specs.Standing.{StandsAt, without_drains}
+use Rattle.replay_drive.specs.Growing.{KeepsParts, KeepsStore, parts_at_most}
+use Rattle.replay_drive.proofs.AdvanceStands.{IsRunsAdvance, none_before, is_none_none, both_hold, runs_advance}
+use Rattle.replay_drive.proofs.PartsKept.{next_part, parts_ended, parts_moved, positions}
+use Rattle.replay_drive.proofs.StoreKept.{FollowsOn, store_fails, store_grows, store_rests}
+
+-- what is kept of the parts and of the store
+pub record KeepsAll {D : Type 0} (files : D → Option Files) (moment : D → ℕ) (left : D → ℕ → Files → Type 0) (trace : Recording) (kept : Recorded) (begin : Head) (start now : D) (d : Collection) : Type 0 where
+  pub parts : KeepsParts trace d
+  pub store : KeepsStore files moment left trace kept begin start now d
+
+-- where a fault is kept nothing is said of the parts
+none_kept : (trace : Recording) (e : Collection) (fault : DbFault) → e.failure ≡ Some fault → KeepsParts trace e
+none_kept trace e fault is = record { part = λ none. some_none e.failure fault is none; noted = λ none. some_none e.failure fault is none }
+  where
+    some_none : {A B : Type 0} (o : Option A) (x : A) → o ≡ Some x → o ≡ None → B
+    some_none o x a b = cc
+
+-- no more parts may be there
+more_parts : (d : Collection) (e : Collection) (x : Advanced) → e.part ≡ d.part → FaultAfter d.failure x e.failure → parts_at_most d ≤ parts_at_most e
+more_parts d e x part fault = by d.failure e.failure fault
+  where
+    by : (o p : Option DbFault) → FaultAfter o x p → (if is_none o then d.part else d.part + 1) ≤ (if is_none p then e.part else e.part + 1)
+    by None None h = omega (arith, part)
+    by None (Some g) h = omega (arith, part)
+    by (Some f) None h = absurd cc
+    by (Some f) (Some g) h = omega (arith, part)
+
+ends_stores : {D : Type 0} (files : D → Option Files) (faults moment : D → ℕ) (left : D → ℕ → Files → Type 0) (trace : Recording) (run first_epoch : ℕ) (d e : Collection) (system after_system : System) (rest : List Step)
+    (begin : Head) (start store after : D) (o : Option DbFault)
+    → FollowsOn (record_of run first_epoch (after_steps Free trace after_system rest)) begin
+    → d.trace ≡ trace → d.run ≡ run → d.first_epoch ≡ first_epoch → d.failure ≡ None → IsRunsAdvance trace d system
+    → (advance_of d).daemon.applied ≡ after_system.daemon.applied → (advance_of d).daemon.epoch ≡ after_system.daemon.epoch → d.state.drains ≡ after_system.daemon.drains
+    → after_system.daemon.epoch ≡ epoch_after first_epoch (take after_system.daemon.applied (records_in trace)) → AllOf (λ x. x.at ≤ d.state.applied) d.state.drains
+    → commits d (advance_of d).answer ≡ true → e.failure ≡ o → EndsPart files faults moment left d (advance_of d) store o e after
+    → KeepsAll files moment left trace (record_of run first_epoch (after_steps Free trace after_system rest)) begin start store d
+    → KeepsAll files moment left trace (record_of run first_epoch (after_steps Free trace after_system rest)) begin start after e
+ends_stores files faults moment left trace run first_epoch d e system after_system rest begin start store after None follows is run_is first_is fine step applied epoch drains books before commit none h keeps =
+    let next = next_part trace run first_epoch d (advance_of d) after_system rest is run_is first_is fine step.kind commit applied epoch drains books keeps.parts in
+    record {
+      parts = parts_ended trace d e (advance_of d) is fine step.kind step.left before commit (ap (λ (c : Collection). c.state) h.0) (ap (λ (c : Collection). c.part) h.0) (ap (λ (c : Collection). c.noted) h.0) keeps.parts;
+      store = store_grows files faults moment left trace _ begin e.head start store after d e (part_in d (advance_of d).daemon.epoch false []) follows next refl fine (ap (λ (c : Collection). c.part) h.0) refl none keeps.store h.1;
+    }
+ends_stores files faults moment left trace run first_epoch d e system after_system rest begin start store after (Some fault) follows is run_is first_is fine step applied epoch drains books before commit some h keeps =
+    let next = next_part trace run first_epoch d (advance_of d) after_system rest is run_is first_is fine step.kind commit applied epoch drains books keeps.parts in
+    record {
+      parts = none_kept trace e fault some;
+      store = store_fails files faults moment left trace _ begin start store after d e (part_in d (advance_of d).daemon.epoch false []) fault follows next refl fine (ap (λ (c : Collection). c.part) h.0) some keeps.store h.1;
+    }
+
+outcome_stores : {D : Type 0} (files : D → Option Files) (faults moment : D → ℕ) (left : D → ℕ → Files → Type 0) (trace : Recording) (run first_epoch : ℕ) (d e : Collection) (system after_system : System) (rest : List Step)
+    (begin : Head) (start store after : D) (b : Bool)
+    → FollowsOn (record_of run first_epoch (after_steps Free trace after_system rest)) begin
+    → d.trace ≡ trace → d.run ≡ run → d.first_epoch ≡ first_epoch → IsRunsAdvance trace d system
+    → (advance_of d).daemon.applied ≡ after_system.daemon.applied → (advance_of d).daemon.epoch ≡ after_system.daemon.epoch → (d.failure ≡ None → d.state.drains ≡ after_system.daemon.drains)
+    → after_system.daemon.epoch ≡ epoch_after first_epoch (take after_system.daemon.applied (records_in trace)) → (d.failure ≡ None → AllOf (λ x. x.at ≤ d.state.applied) d.state.drains)
+    → commits d (advance_of d).answer ≡ b → Outcome files faults moment left b d (advance_of d) store e after
+    → KeepsAll files moment left trace (record_of run first_epoch (after_steps Free trace after_system rest)) begin start store d
+    → KeepsAll files moment left trace (record_of run first_epoch (after_steps Free trace after_system rest)) begin start after e
+outcome_stores files faults moment left trace run first_epoch d e system after_system rest begin start store after true follows is run_is first_is step applied epoch drains books before commit h keeps =
+    let fine = is_none_none d.failure (both_hold _ _ _ commit) in
+    ends_stores files faults moment left trace run first_epoch d e system after_system rest begin start store after e.failure follows is run_is first_is fine step applied epoch (drains fine) books (before fine) commit refl h keeps
+outcome_stores {D = D} files faults moment left trace run first_epoch d e system after_system rest begin start store after false follows is run_is first_is step applied epoch drains books before commit h keeps =
+    let fine : e.failure ≡ None → d.failure ≡ None = none_before d.failure (advance_of d).answer e.failure h.fault in
+    record {
+      parts = parts_moved trace d e (advance_of d) store after is fine step.kind step.left commit h keeps.parts;
+      store = subst (λ (s : D). KeepsStore files moment left trace (record_of run first_epoch (after_steps Free trace after_system rest)) begin start s e) (sym h.untouched)
+          (store_rests files moment left trace _ begin start store d e (ap (λ (c : Collection). c.part) h.moved) (ap (λ (c : Collection). c.head) h.moved) fine
+          (more_parts d e (advance_of d).answer (ap (λ (c : Collection). c.part) h.moved) h.fault) keeps.store);
+    }
+
+pub advance_stores : {D : Type 0} (files : D → Option Files) (faults moment : D → ℕ) (left : D → ℕ → Files → Type 0) → AdvancesAsTheRun → (trace : Recording) (run first_epoch : ℕ) (lanes : List Seen) (sides : List Plain)
+    (d e : Collection) (system : System) (rest : List Step) (begin : Head) (start store after : D) (answer : Advanced)
+    → StandsAt trace run first_epoch lanes sides d system → SystemHolds Free trace first_epoch system → SystemHolds Free trace first_epoch (after_advance Free trace system)
+    → run ≡ begin.runs + 1 → first_epoch ≡ begin.epoch
+    → Advances files faults moment left (advance_of d) d store answer e after
+    → KeepsAll files moment left trace (record_of run first_epoch (after_steps Free trace (after_advance Free trace system) rest)) begin start store d
+    → KeepsAll files moment left trace (record_of run first_epoch (after_steps Free trace (after_advance Free trace system) rest)) begin start after e
+advance_stores files faults moment left law trace run first_epoch lanes sides d e system rest begin start store after answer stands holds held runs epochs h keeps =
+    let step = runs_advance law trace run first_epoch lanes sides d system stands holds in
+    let follows : FollowsOn (record_of run first_epoch (after_steps Free trace (after_advance Free trace system) rest)) begin = record { run = runs; first_epoch = epochs } in
+    let drains : d.failure ≡ None → d.state.drains ≡ (after_advance Free trace system).daemon.drains = λ none. stands.drains none ∙ sym (ap (λ (a : Advancing). a.daemon.drains) step.its) in
+    let before : d.failure ≡ None → AllOf (λ x. x.at ≤ d.state.applied) d.state.drains = λ none.
+    subst (λ (ds : List Drained). AllOf (λ x. x.at ≤ d.state.applied) ds) (sym (stands.drains none))
+    (subst (λ (n : ℕ). AllOf (λ x. x.at ≤ n) system.daemon.drains) (sym (ap (λ (z : Daemon). z.applied) stands.state)) (positions system.daemon system.daemon.drains holds.books.before)) in
+    outcome_stores files faults moment left trace run first_epoch d e system (after_advance Free trace system) rest begin start store after (commits d (advance_of d).answer) follows
+    stands.trace_is stands.run_is stands.first_is step (sym (ap (λ (a : Advancing). a.daemon.applied) step.its)) (sym (ap (λ (a : Advancing). a.daemon.epoch) step.its)) drains held.books.epoch before refl h.outcome keeps
