@@ -123,6 +123,7 @@ kinds pace records fars d well = by d.asking refl
   where
     waiting : Option ℕ
     waiting = first_waiting (flush_before d.applied) 0 fars
+
     by : (t : Bool) → d.asking ≡ t → Kind pace records d (if t then go_on records d waiting else begin pace d (slice_get records d.applied))
     by true e = go_kind pace records d waiting e (well.need e)
     by false e = begin_kind pace records d (slice_get records d.applied) refl e
@@ -152,10 +153,10 @@ rang_players trace daemon value cpu [] (s ∷ ss) within all holds = absurd all
 rang_players trace daemon value cpu (l ∷ ls) [] within all holds = absurd all
 rang_players trace daemon value cpu (l ∷ ls) (s ∷ ss) within all holds = (
   player_with trace cpu _ _ _ _ _ l (rang value s) within
-    (subst (λ (n : ℕ). HoldsAt Free trace daemon n (processor_of l (rang value s))) (omega arith) (holds 0 (processor_of l (rang value s)) refl))
-    all.0.setup all.0.fixed all.0.runs.left,
+      (subst (λ (n : ℕ). HoldsAt Free trace daemon n (processor_of l (rang value s))) (omega arith) (holds 0 (processor_of l (rang value s)) refl))
+      all.0.setup all.0.fixed all.0.runs.left,
   rang_players trace daemon value (cpu + 1) ls ss within all.1
-    (λ k p at. subst (λ (n : ℕ). HoldsAt Free trace daemon n p) (omega arith) (holds (suc k) p at))
+      (λ k p at. subst (λ (n : ℕ). HoldsAt Free trace daemon n p) (omega arith) (holds (suc k) p at)),
 )
 
 ring_players : (trace : Recording) (daemon : Daemon) (ring : Option ℕ) (ls : List Seen) (ss : List Plain) → daemon.applied ≤ length (records_in trace) → ArePlayers Free trace 0 ls ss
@@ -192,37 +193,41 @@ by_kind : CountsAgree → (d e : Collection) (sides : List Plain) (done : Advanc
     → FitFrom e 0 (rang_if done.ring sides) × Agree (flush_before e.state.applied) e.flushes (fars_in (rang_if done.ring sides))
 by_kind laws d e sides done (Waits is ring answer) went fits counts =
     let rungs = rungs_like d e done.daemon went.trace went.pace went.state ∙ ap (λ (z : Daemon). rungs_of d.pace (records_in d.trace) z) is in
-    let applied : e.state.applied ≡ d.state.applied = same_applied e done.daemon went.state ∙ ap (λ (z : Daemon). z.applied) is in
-    (subst (λ (o : Option ℕ). FitFrom e 0 (rang_if o sides)) (sym ring) (fit_same d e 0 sides went.trace rungs fits),
-    subst (λ (o : Option ℕ). Agree (flush_before e.state.applied) e.flushes (fars_in (rang_if o sides))) (sym ring)
-    (subst (λ (n : ℕ). Agree (flush_before n) e.flushes (fars_in sides)) (sym applied)
-    (subst (λ (z : List Flush). Agree (flush_before d.state.applied) z (fars_in sides)) (sym went.flushes) counts)))
+    let applied : e.state.applied ≡ d.state.applied = same_applied e done.daemon went.state ∙ ap (λ (z : Daemon). z.applied) is in (
+      subst (λ (o : Option ℕ). FitFrom e 0 (rang_if o sides)) (sym ring) (fit_same d e 0 sides went.trace rungs fits),
+      subst (λ (o : Option ℕ). Agree (flush_before e.state.applied) e.flushes (fars_in (rang_if o sides))) (sym ring)
+          (subst (λ (n : ℕ). Agree (flush_before n) e.flushes (fars_in sides)) (sym applied)
+          (subst (λ (z : List Flush). Agree (flush_before d.state.applied) z (fars_in sides)) (sym went.flushes) counts)),
+    )
 by_kind laws d e sides done (Ends is ring answer) went fits counts =
     let rungs = rungs_like d e done.daemon went.trace went.pace went.state ∙ ap (λ (z : Daemon). rungs_of d.pace (records_in d.trace) z) is in
-    let applied : e.state.applied ≡ d.state.applied = same_applied e done.daemon went.state ∙ ap (λ (z : Daemon). z.applied) is in
-    (subst (λ (o : Option ℕ). FitFrom e 0 (rang_if o sides)) (sym ring) (fit_same d e 0 sides went.trace rungs fits),
-    subst (λ (o : Option ℕ). Agree (flush_before e.state.applied) e.flushes (fars_in (rang_if o sides))) (sym ring)
-    (subst (λ (n : ℕ). Agree (flush_before n) e.flushes (fars_in sides)) (sym applied)
-    (subst (λ (z : List Flush). Agree (flush_before d.state.applied) z (fars_in sides)) (sym went.flushes) counts)))
+    let applied : e.state.applied ≡ d.state.applied = same_applied e done.daemon went.state ∙ ap (λ (z : Daemon). z.applied) is in (
+      subst (λ (o : Option ℕ). FitFrom e 0 (rang_if o sides)) (sym ring) (fit_same d e 0 sides went.trace rungs fits),
+      subst (λ (o : Option ℕ). Agree (flush_before e.state.applied) e.flushes (fars_in (rang_if o sides))) (sym ring)
+          (subst (λ (n : ℕ). Agree (flush_before n) e.flushes (fars_in sides)) (sym applied)
+          (subst (λ (z : List Flush). Agree (flush_before d.state.applied) z (fars_in sides)) (sym went.flushes) counts)),
+    )
 by_kind laws d e sides done (Asks was is ring answer) went fits counts =
     let rungs = rungs_like d e done.daemon went.trace went.pace went.state
     ∙ rungs_asked d.pace (records_in d.trace) d.state done.daemon was (ap (λ (z : Daemon). z.asking) is) (ap (λ (z : Daemon). z.applied) is) in
-    let applied : e.state.applied ≡ d.state.applied = same_applied e done.daemon went.state ∙ ap (λ (z : Daemon). z.applied) is in
-    (subst (λ (o : Option ℕ). FitFrom e 0 (rang_if o sides)) (sym ring) (fit_rang d e 0 (flush_before d.state.applied) sides went.trace rungs fits),
-    subst (λ (o : Option ℕ). Agree (flush_before e.state.applied) e.flushes (fars_in (rang_if o sides))) (sym ring)
-    (subst (λ (n : ℕ). Agree (flush_before n) e.flushes (fars_in (map (rang (flush_before d.state.applied)) sides))) (sym applied)
-    (subst (λ (z : List Flush). Agree (flush_before d.state.applied) z (fars_in (map (rang (flush_before d.state.applied)) sides))) (sym went.flushes)
-    (rang_counts laws (flush_before d.state.applied) (flush_before d.state.applied) d.flushes sides counts))))
+    let applied : e.state.applied ≡ d.state.applied = same_applied e done.daemon went.state ∙ ap (λ (z : Daemon). z.applied) is in (
+      subst (λ (o : Option ℕ). FitFrom e 0 (rang_if o sides)) (sym ring) (fit_rang d e 0 (flush_before d.state.applied) sides went.trace rungs fits),
+      subst (λ (o : Option ℕ). Agree (flush_before e.state.applied) e.flushes (fars_in (rang_if o sides))) (sym ring)
+          (subst (λ (n : ℕ). Agree (flush_before n) e.flushes (fars_in (map (rang (flush_before d.state.applied)) sides))) (sym applied)
+          (subst (λ (z : List Flush). Agree (flush_before d.state.applied) z (fars_in (map (rang (flush_before d.state.applied)) sides))) (sym went.flushes)
+          (rang_counts laws (flush_before d.state.applied) (flush_before d.state.applied) d.flushes sides counts))),
+    )
 by_kind laws d e sides done (Moves notice there needs is ring answer) went fits counts =
     let rungs = rungs_like d e done.daemon went.trace went.pace went.state
     ∙ rungs_moved d.pace (records_in d.trace) d.state done.daemon notice there needs (ap (λ (z : Daemon). z.asking) is) (ap (λ (z : Daemon). z.applied) is) in
-    let applied : e.state.applied ≡ d.state.applied + 1 = same_applied e done.daemon went.state ∙ ap (λ (z : Daemon). z.applied) is in
-    (subst (λ (o : Option ℕ). FitFrom e 0 (rang_if o sides)) (sym ring) (fit_rang d e 0 (in_force (d.state.applied + 1)) sides went.trace rungs fits),
-    subst (λ (o : Option ℕ). Agree (flush_before e.state.applied) e.flushes (fars_in (rang_if o sides))) (sym ring)
-    (subst (λ (n : ℕ). Agree (flush_before n) e.flushes (fars_in (map (rang (in_force (d.state.applied + 1))) sides))) (sym applied)
-    (subst (λ (z : List Flush). Agree (flush_before (d.state.applied + 1)) z (fars_in (map (rang (in_force (d.state.applied + 1))) sides))) (sym went.flushes)
-    (rang_counts laws (flush_before (d.state.applied + 1)) (in_force (d.state.applied + 1)) d.flushes sides
-    (later_counts laws (flush_before d.state.applied) (flush_before (d.state.applied + 1)) d.flushes (fars_in sides) (omega arith) counts)))))
+    let applied : e.state.applied ≡ d.state.applied + 1 = same_applied e done.daemon went.state ∙ ap (λ (z : Daemon). z.applied) is in (
+      subst (λ (o : Option ℕ). FitFrom e 0 (rang_if o sides)) (sym ring) (fit_rang d e 0 (in_force (d.state.applied + 1)) sides went.trace rungs fits),
+      subst (λ (o : Option ℕ). Agree (flush_before e.state.applied) e.flushes (fars_in (rang_if o sides))) (sym ring)
+          (subst (λ (n : ℕ). Agree (flush_before n) e.flushes (fars_in (map (rang (in_force (d.state.applied + 1))) sides))) (sym applied)
+          (subst (λ (z : List Flush). Agree (flush_before (d.state.applied + 1)) z (fars_in (map (rang (in_force (d.state.applied + 1))) sides))) (sym went.flushes)
+          (rang_counts laws (flush_before (d.state.applied + 1)) (in_force (d.state.applied + 1)) d.flushes sides
+          (later_counts laws (flush_before d.state.applied) (flush_before (d.state.applied + 1)) d.flushes (fars_in sides) (omega arith) counts)))),
+    )
 
 -- ---- all of it
 

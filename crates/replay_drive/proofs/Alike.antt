@@ -37,6 +37,7 @@ advance_alike ds d pace records fars = by d.asking
   where
     waiting : Option ℕ
     waiting = first_waiting (flush_before d.applied) 0 fars
+
     by : (t : Bool) → (if t then go_on records (with_drains ds d) waiting else begin pace (with_drains ds d) (slice_get records d.applied))
         ≡ doing_with ds (if t then go_on records d waiting else begin pace d (slice_get records d.applied))
     by true = go_alike ds d records waiting
@@ -71,6 +72,7 @@ advance_drains d pace records fars = by d.asking
   where
     waiting : Option ℕ
     waiting = first_waiting (flush_before d.applied) 0 fars
+
     by : (t : Bool) → (if t then go_on records d waiting else begin pace d (slice_get records d.applied)).daemon.drains ≡ d.drains
     by true = go_drains d records waiting
     by false = begin_drains d pace (slice_get records d.applied)

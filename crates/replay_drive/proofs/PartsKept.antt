@@ -63,8 +63,10 @@ epochs (suc n) (x ∷ rs) =
   where
     ends : ℕ
     ends = count_by ends_part (take n rs)
+
     others : List Record
     others = filter ends_part rs
+
     by : (t : Bool) → count_by begins_epoch (take n rs) ≡ count_by begins_epoch (take ends others) → ends_part x ≡ t
         → (if begins_epoch x then 1 else 0) + count_by begins_epoch (take n rs) ≡ count_by begins_epoch (take ((if t then 1 else 0) + ends) (if t then x ∷ others else others))
     by true rest e =
@@ -210,6 +212,7 @@ next_part trace run first_epoch d done system rest is run_is first_is fine kind 
   where
     segment_with : ℕ → ℕ → Bool → ℕ → List Drained → List (List Loss) → Segment
     segment_with run part last first drains losses = record { run = run; part = part; last = last; first_epoch = first; drains = drains; losses = losses }
+
     segment_parts : {r1 r2 p1 p2 : ℕ} {l1 l2 : Bool} {f1 f2 : ℕ} {d1 d2 : List Drained} {x1 x2 : List (List Loss)} → r1 ≡ r2 → p1 ≡ p2 → l1 ≡ l2 → f1 ≡ f2 → d1 ≡ d2 → x1 ≡ x2
         → segment_with r1 p1 l1 f1 d1 x1 ≡ segment_with r2 p2 l2 f2 d2 x2
     segment_parts r p l f d x = λ i. segment_with (r i) (p i) (l i) (f i) (d i) (x i)

@@ -227,10 +227,11 @@ poll_case laws trace run first_epoch lanes sides d e system cpu cell l s n stand
     let daemon = polled_daemon trace system cpu cell (processor_of l s) None there polls.waits in
     let one = fits_with d cpu s n (subst (λ (i : ℕ). IsFitting d i s.fixed s.far) (omega arith) (fits_at d 0 sides cpu s stands.fits on)) fixed back (ap (λ (f : FarSide). f.rungs) polls.stays) in
     let fits = fits_set d 0 sides cpu n stands.fits (subst (λ (i : ℕ). IsFitting d i n.fixed n.far) (omega arith) one) in
-    let counts = agrees_same (flush_before d.state.applied) d.flushes sides cpu s n on polls.stays stands.counts in
-    (subst (λ (z : Collection). SameDaemon trace run first_epoch z (after_poll trace system cpu cell (slice_get system.processors cpu)).daemon) (sym is) (subst (λ (w : Daemon). SameDaemon trace run first_epoch d w) (sym daemon) before),
-    subst (λ (z : Collection). FitFrom z 0 (slice_set sides cpu n)) (sym is) fits,
-    subst (λ (z : Collection). Agree (flush_before z.state.applied) z.flushes (fars_in (slice_set sides cpu n))) (sym is) counts)
+    let counts = agrees_same (flush_before d.state.applied) d.flushes sides cpu s n on polls.stays stands.counts in (
+      subst (λ (z : Collection). SameDaemon trace run first_epoch z (after_poll trace system cpu cell (slice_get system.processors cpu)).daemon) (sym is) (subst (λ (w : Daemon). SameDaemon trace run first_epoch d w) (sym daemon) before),
+      subst (λ (z : Collection). FitFrom z 0 (slice_set sides cpu n)) (sym is) fits,
+      subst (λ (z : Collection). Agree (flush_before z.state.applied) z.flushes (fars_in (slice_set sides cpu n))) (sym is) counts,
+    )
 poll_case laws trace run first_epoch lanes sides d e system cpu cell l s n stands on fixed back value below rising there (inr (batch, polls, taken)) =
     let before : SameDaemon trace run first_epoch d system.daemon = record { trace_is = stands.trace_is; pace_is = stands.pace_is; run_is = stands.run_is; first_is = stands.first_is; state = stands.state; drains = stands.drains } in
     let daemon = polled_daemon trace system cpu cell (processor_of l s) (Some batch) there polls.waits in
@@ -240,12 +241,13 @@ poll_case laws trace run first_epoch lanes sides d e system cpu cell l s n stand
     let asked : batch.note.answers ≤ flush_before d.state.applied = omega (arith, rung_below s.far.rungs batch.note.answers rising polls.answers, below) in
     let agrees = polls.counts laws (flush_before d.state.applied) (slice_index_or d.flushes cpu no_flush) asked
     (agrees_at (flush_before d.state.applied) d.flushes (fars_in sides) cpu s.far stands.counts (fars_got sides cpu s on)) in
-    let counts = agrees_set (flush_before d.state.applied) d.flushes (fars_in sides) cpu _ n.far stands.counts agrees in
-    (subst (λ (w : Daemon). SameDaemon trace run first_epoch e w) (sym daemon) (taken_same trace run first_epoch d e system.daemon cpu cell batch taken before),
-    fit_same d e 0 (slice_set sides cpu n) left.trace left.rungs fits,
-    subst (λ (k : ℕ). Agree (flush_before k) e.flushes (fars_in (slice_set sides cpu n))) (sym left.applied)
-    (subst (λ (z : List Flush). Agree (flush_before d.state.applied) z (fars_in (slice_set sides cpu n))) (sym left.flushes)
-    (subst (λ (z : List FarSide). Agree (flush_before d.state.applied) (slice_set d.flushes cpu (flush_took (flush_before d.state.applied) (slice_index_or d.flushes cpu no_flush) cell batch.note)) z) (sym (fars_set sides cpu n)) counts)))
+    let counts = agrees_set (flush_before d.state.applied) d.flushes (fars_in sides) cpu _ n.far stands.counts agrees in (
+      subst (λ (w : Daemon). SameDaemon trace run first_epoch e w) (sym daemon) (taken_same trace run first_epoch d e system.daemon cpu cell batch taken before),
+      fit_same d e 0 (slice_set sides cpu n) left.trace left.rungs fits,
+      subst (λ (k : ℕ). Agree (flush_before k) e.flushes (fars_in (slice_set sides cpu n))) (sym left.applied)
+          (subst (λ (z : List Flush). Agree (flush_before d.state.applied) z (fars_in (slice_set sides cpu n))) (sym left.flushes)
+          (subst (λ (z : List FarSide). Agree (flush_before d.state.applied) (slice_set d.flushes cpu (flush_took (flush_before d.state.applied) (slice_index_or d.flushes cpu no_flush) cell batch.note)) z) (sym (fars_set sides cpu n)) counts)),
+    )
 
 -- what a poll leaves of the side
 step_left : (cpu cell requests : ℕ) (samples : List Marked) (l : Seen) (s n : Plain) (d e : Collection) → PollStep cpu cell l.driver s n d e → HasLeft requests samples s.seen → HasLeft requests samples n.seen

@@ -213,12 +213,12 @@ pub poll_leaves : (trace : Recording) (cpu cell m : ℕ) (fixed : Fixed) (d e : 
 poll_leaves trace cpu cell m fixed d e v w f g answer is low polls =
     elim (polls_take cpu m fixed d e v w f g answer (omega (arith, low)) polls) as (λ z. LeavesStore trace d e) [
       | inl same ↦ record {
-          part = ap (λ (c : Collection). c.part) same;
-          head = ap (λ (c : Collection). c.head) same;
-          fine = λ none. ap (λ (c : Collection). c.failure) (sym same) ∙ none;
-          more = subst (λ (c : Collection). parts_at_most d ≤ parts_at_most c) (sym same) (omega arith);
-          parts = λ keeps. subst (λ (c : Collection). KeepsParts trace c) (sym same) keeps;
-        }
+        part = ap (λ (c : Collection). c.part) same;
+        head = ap (λ (c : Collection). c.head) same;
+        fine = λ none. ap (λ (c : Collection). c.failure) (sym same) ∙ none;
+        more = subst (λ (c : Collection). parts_at_most d ≤ parts_at_most c) (sym same) (omega arith);
+        parts = λ keeps. subst (λ (c : Collection). KeepsParts trace c) (sym same) keeps;
+      }
       | inr (batch, taken) ↦ taken_leaves trace d e cpu m batch is taken
     ]
 
@@ -250,7 +250,7 @@ may_ring trace cpu [] (s ∷ ss) all = absurd all
 may_ring trace cpu (l ∷ ls) [] all = absurd all
 may_ring trace cpu (l ∷ ls) (s ∷ ss) all = (
   (λ e. let odd : s.fixed.even ≡ false = ap (λ (x : Fixed). x.even) all.0.fixed in absurd cc),
-  may_ring trace (cpu + 1) ls ss all.1
+  may_ring trace (cpu + 1) ls ss all.1,
 )
 
 -- the sides as the daemon's contract sees them

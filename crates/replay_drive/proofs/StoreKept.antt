@@ -43,14 +43,24 @@ one_file f g e = cc
 pub store_starts : {D : Type 0} (files : D → Option Files) (moment : D → ℕ) (left : D → ℕ → Files → Type 0) (trace : Recording) (kept : Recorded) (begin : Head) (start : D) (d : Collection)
     → d.part ≡ 0 → d.head ≡ begin → d.failure ≡ None → KeepsStore files moment left trace kept begin start start d
 store_starts files moment left trace kept begin start d part head fine = record {
-  stands = λ f tells still. (f, subst (λ (h : Head). TellsNow files moment left start h f) (sym head) tells,
-      subst (λ (n : ℕ). GrownBy trace kept n (database_of begin f) (database_of d.head f)) (sym part)
-      (subst (λ (h : Head). GrownBy trace kept 0 (database_of begin f) (database_of h f)) (sym head) (none_grown trace kept (database_of begin f))));
+  stands = λ f tells still. (
+    f,
+    subst (λ (h : Head). TellsNow files moment left start h f) (sym head) tells,
+    subst (λ (n : ℕ). GrownBy trace kept n (database_of begin f) (database_of d.head f)) (sym part)
+        (subst (λ (h : Head). GrownBy trace kept 0 (database_of begin f) (database_of h f)) (sym head) (none_grown trace kept (database_of begin f))),
+  );
   any_moment = λ f tells. only_reads (MayBeGrown trace kept (parts_at_most d) (database_of begin f))
       (λ c here. (0, omega arith, (database_of begin f, none_grown trace kept (database_of begin f), (begin, (tells.crash c here).0, (tells.crash c here).1))))
       (stands_still (moment start) (left start) (left start (moment start)));
-  present = λ f g tells is. (0, omega arith, (database_of begin f, none_grown trace kept (database_of begin f),
-      (begin, subst (λ (x : Files). HaveHead x begin) (one_file f g (sym tells.told ∙ is)) tells.has_head, ap (λ (x : Files). database_of begin x) (sym (one_file f g (sym tells.told ∙ is))))));
+  present = λ f g tells is. (
+    0,
+    omega arith,
+    (
+      database_of begin f,
+      none_grown trace kept (database_of begin f),
+      (begin, subst (λ (x : Files). HaveHead x begin) (one_file f g (sym tells.told ∙ is)) tells.has_head, ap (λ (x : Files). database_of begin x) (sym (one_file f g (sym tells.told ∙ is)))),
+    ),
+  );
 }
 
 -- ---- no call of the store
@@ -59,10 +69,12 @@ pub store_rests : {D : Type 0} (files : D → Option Files) (moment : D → ℕ)
     → e.part ≡ d.part → e.head ≡ d.head → (e.failure ≡ None → d.failure ≡ None) → parts_at_most d ≤ parts_at_most e
     → KeepsStore files moment left trace kept begin start now d → KeepsStore files moment left trace kept begin start now e
 store_rests files moment left trace kept begin start now d e part head fine more keeps = record {
-  stands = λ f tells still. let g = keeps.stands f tells (fine still) in
-      (g.0, subst (λ (h : Head). TellsNow files moment left now h g.0) (sym head) g.1,
-      subst (λ (n : ℕ). GrownBy trace kept n (database_of begin f) (database_of e.head g.0)) (sym part)
-      (subst (λ (h : Head). GrownBy trace kept d.part (database_of begin f) (database_of h g.0)) (sym head) g.2));
+  stands = λ f tells still. let g = keeps.stands f tells (fine still) in (
+    g.0,
+    subst (λ (h : Head). TellsNow files moment left now h g.0) (sym head) g.1,
+    subst (λ (n : ℕ). GrownBy trace kept n (database_of begin f) (database_of e.head g.0)) (sym part)
+        (subst (λ (h : Head). GrownBy trace kept d.part (database_of begin f) (database_of h g.0)) (sym head) g.2),
+  );
   any_moment = λ f tells. leaves_wider (λ c h. at_most trace kept (parts_at_most d) (parts_at_most e) (database_of begin f) c more h) (keeps.any_moment f tells);
   present = λ f g tells is. at_most trace kept (parts_at_most d) (parts_at_most e) (database_of begin f) g more (keeps.present f g tells is);
 }
@@ -127,17 +139,26 @@ store_grows files faults moment left trace kept begin next start now after d e w
       (either_grown trace kept begin d.part whole f (database_of d.head g.0) c follows is_next g.2
       (subst (λ (h : Head). BeforeOrGrown whole (database_of h g.0) c) head h)))
       (keeps.any_moment f tells) (committed.any_moment g.0 (subst (λ (h : Head). TellsNow files moment left now h g.0) (sym head) g.1));
-  present = λ f g tells is. let mine = told f tells in
-      (e.part, omega (arith, after_bound, part), (database_of e.head mine.0, mine.2,
-      (e.head, subst (λ (x : Files). HaveHead x e.head) (one_file mine.0 g (sym mine.1.told ∙ is)) mine.1.has_head, ap (λ (x : Files). database_of e.head x) (sym (one_file mine.0 g (sym mine.1.told ∙ is))))));
+  present = λ f g tells is. let mine = told f tells in (
+    e.part,
+    omega (arith, after_bound, part),
+    (
+      database_of e.head mine.0,
+      mine.2,
+      (e.head, subst (λ (x : Files). HaveHead x e.head) (one_file mine.0 g (sym mine.1.told ∙ is)) mine.1.has_head, ap (λ (x : Files). database_of e.head x) (sym (one_file mine.0 g (sym mine.1.told ∙ is)))),
+    ),
+  );
 }
   where
     bound : parts_at_most d ≤ parts_at_most e
     bound = omega (arith, fine_parts d fine, fine_parts e still, part)
+
     after_bound : parts_at_most e ≡ d.part + 1
     after_bound = fine_parts e still ∙ part
+
     here : (f : Files) → TellsNow files moment left start begin f → (g : Files) × TellsNow files moment left now d.head g × GrownBy trace kept d.part (database_of begin f) (database_of d.head g)
     here f tells = keeps.stands f tells fine
+
     told : (f : Files) → TellsNow files moment left start begin f → (g : Files) × TellsNow files moment left after e.head g × GrownBy trace kept e.part (database_of begin f) (database_of e.head g)
     told f tells =
         let g = here f tells in
@@ -145,10 +166,12 @@ store_grows files faults moment left trace kept begin next start now after d e w
         let grown = committed.grows g.0 at.told at.has_head in
         let grows = subst (λ (h : Head). PartGrows whole (database_of h g.0) (database_of next grown.0)) head grown.3 in
         let more = one_grown trace kept d.part (database_of begin f) (database_of d.head g.0) (database_of next grown.0) begin is_next.within follows.run follows.first_epoch g.2
-        (part_grows trace kept d.part whole (database_of d.head g.0) (database_of next grown.0) is_next grows) in
-        (grown.0, subst (λ (h : Head). TellsNow files moment left after h grown.0) (sym new_head) (committed.after_it g.0 grown.0 at grown.1),
-        subst (λ (n : ℕ). GrownBy trace kept n (database_of begin f) (database_of e.head grown.0)) (sym part)
-        (subst (λ (h : Head). GrownBy trace kept (d.part + 1) (database_of begin f) (database_of h grown.0)) (sym new_head) more))
+        (part_grows trace kept d.part whole (database_of d.head g.0) (database_of next grown.0) is_next grows) in (
+          grown.0,
+          subst (λ (h : Head). TellsNow files moment left after h grown.0) (sym new_head) (committed.after_it g.0 grown.0 at grown.1),
+          subst (λ (n : ℕ). GrownBy trace kept n (database_of begin f) (database_of e.head grown.0)) (sym part)
+              (subst (λ (h : Head). GrownBy trace kept (d.part + 1) (database_of begin f) (database_of h grown.0)) (sym new_head) more),
+        )
 
 -- it failed
 pub store_fails : {D : Type 0} (files : D → Option Files) (faults moment : D → ℕ) (left : D → ℕ → Files → Type 0) (trace : Recording) (kept : Recorded) (begin : Head) (start now after : D) (d e : Collection) (whole : Part) (fault : DbFault)
@@ -172,5 +195,6 @@ store_fails files faults moment left trace kept begin start now after d e whole 
   where
     some_none : {A B : Type 0} (o : Option A) (x : A) → o ≡ Some x → o ≡ None → B
     some_none o x a b = cc
+
     after_bound : parts_at_most e ≡ d.part + 1
     after_bound = failed_parts e fault failed ∙ ap (λ n. n + 1) part

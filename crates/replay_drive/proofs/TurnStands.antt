@@ -83,5 +83,6 @@ turn_stands trace run first_epoch lanes nlanes sides nsides d system cpu stands 
   where
     system_with : Daemon → List Processor → System
     system_with daemon ps = record { processors = ps; daemon = daemon }
+
     same_system : (daemon : Daemon) {ps qs : List Processor} → ps ≡ qs → system_with daemon ps ≡ system_with daemon qs
     same_system daemon e = λ i. system_with daemon (e i)

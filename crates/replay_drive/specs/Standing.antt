@@ -8,7 +8,6 @@ use Rattle.lane_side.specs.Plain.{Plain}
 use Rattle.cpu_lane.specs.Seen.{Seen}
 use Rattle.run_model.specs.Daemon.{Daemon, flush_before}
 use Rattle.run_model.specs.Running.{System}
-
 use Rattle.dcpid_core.specs.Collection.{Collection, FitFrom}
 use Rattle.dcpid_core.specs.Counting.{Agree, fars_in}
 use Rattle.replay_drive.specs.Players.{ArePlayers, processors_of}
