@@ -12,3 +12,4 @@ mod StoreKept
 mod PartsKept
 mod AdvanceStores
 mod StepsTaken
+mod StepsMany

@@ -1,5 +1,5 @@
 -- A replay that has taken some steps.
-use Rattle.std.specs.Prelude.{◌≡◌, ℕ, ◌+◌, ◌≤◌, ◌++◌, List, [], ◌∷◌, Option, None}
+use Rattle.std.specs.Prelude.{◌≡◌, ℕ, zero, suc, ◌+◌, ◌≤◌, ◌++◌, List, [], ◌∷◌, Option, None}
 use Rattle.sample_key.specs.declared.losses.Pace.TheVariants.{Free}
 use Rattle.trace_model.specs.Recording.{Recording}
 use Rattle.trace_model.specs.declared.notices.Step.{Step}
@@ -60,3 +60,25 @@ pub record LeavesStore (trace : Recording) (before after : Collection) : Type 0 
   pub fine : after.failure ≡ None → before.failure ≡ None
   pub more : parts_at_most before ≤ parts_at_most after
   pub parts : KeepsParts trace before → KeepsParts trace after
+
+-- after these steps it has taken them too
+abbrev pub TakesSteps : Replay → Replay → List Step → Type 0
+TakesSteps before after steps = (trace : Recording) (run first_epoch : ℕ) (done : List Step)
+    → HasTaken trace run first_epoch done before
+    → HasTaken trace run first_epoch (done ++ steps) after
+
+-- and they keep the store
+abbrev pub StoresSteps : {D : Type 0} → (D → Option Files) → (D → ℕ) → (D → ℕ → Files → Type 0)
+    → Replay → Replay → D → D → List Step → Type 0
+StoresSteps {D} files moment left_since before after old new steps = (trace : Recording)
+    (run first_epoch : ℕ) (done rest : List Step) (begin : Head) (start : D)
+    → HasTaken trace run first_epoch done before
+    → IsStored files moment left_since trace run first_epoch (done ++ (steps ++ rest))
+    begin start old before
+    → IsStored files moment left_since trace run first_epoch (done ++ (steps ++ rest))
+    begin start new after
+
+-- so many times the same steps
+abbrev pub repeated : ℕ → List Step → List Step
+repeated zero steps = []
+repeated (suc more) steps = steps ++ repeated more steps

@@ -4,6 +4,7 @@
 
 mod players;
 mod replays;
+mod rounds;
 mod starting;
 
 pub use players::{turn_at, turn_of};
