@@ -35,9 +35,11 @@ pub fn by_image<D: Store>(
     epochs: Epochs,
     event: Event,
 ) -> Result<Rows, DbFault>
-    ensures listed { (files : Files) → D.files store.old ≡ Some files → HaveHead files (head_of db.now) →
+    ensures listed { (files : Files) → D.files store.old ≡ Some files → HaveHead files
+        (head_of db.now) →
         Gives (first_bad files (wanted (head_of db.now) epochs (code_of event)))
-        (λ rows. Lists (counted (database_of (head_of db.now) files) None epochs (code_of event)) rows.rows)
+        (λ rows. Lists (counted (database_of (head_of db.now) files) None epochs
+        (code_of event)) rows.rows)
         result }
     ensures sums { IfOk result (λ rows. AddsUp rows) }
     ensures order { IfOk result (λ rows. StandsInOrder rows.rows) }
@@ -68,9 +70,11 @@ pub fn by_procedure<D: Store>(
     epochs: Epochs,
     event: Event,
 ) -> Result<Rows, DbFault>
-    ensures listed { (files : Files) → D.files store.old ≡ Some files → HaveHead files (head_of db.now) →
+    ensures listed { (files : Files) → D.files store.old ≡ Some files → HaveHead files
+        (head_of db.now) →
         Gives (first_bad files (wanted (head_of db.now) epochs (code_of event)))
-        (λ rows. Lists (counted (database_of (head_of db.now) files) (Some symbols.now) epochs (code_of event)) rows.rows)
+        (λ rows. Lists (counted (database_of (head_of db.now) files) (Some symbols.now) epochs
+        (code_of event)) rows.rows)
         result }
     ensures sums { IfOk result (λ rows. AddsUp rows) }
     ensures order { IfOk result (λ rows. StandsInOrder rows.rows) }

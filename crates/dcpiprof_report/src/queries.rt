@@ -40,8 +40,10 @@ impl Query<'_> {
         store: &mut D,
     ) -> Result<BTreeMap<Label, u128>, DbFault>
         ensures told { (files : Files) → D.files store.old ≡ Some files →
-            Gives (first_bad files (wanted (head_of self.now.db.now) self.now.epochs (code_of self.now.event)))
-            (λ sums. Counts files (head_of self.now.db.now) (option_copied self.now.symbols) self.now.epochs
+            Gives (first_bad files (wanted (head_of self.now.db.now) self.now.epochs
+            (code_of self.now.event)))
+            (λ sums. Counts files (head_of self.now.db.now)
+            (option_copied self.now.symbols) self.now.epochs
             (code_of self.now.event) sums.entries)
             result }
         ensures small { IfOk result (λ sums. held_in_all sums.entries < 2 ^ 128) }
@@ -66,12 +68,15 @@ impl Query<'_> {
         requires { held_in_all sums.old.entries
             + length (head_of self.now.db.now).known * most_counted < 2 ^ 128 }
         ensures told { (files : Files) → D.files store.old ≡ Some files →
-            Gives (first_bad files (known_wanted self.now.epochs (code_of self.now.event) (head_of self.now.db.now).known))
+            Gives (first_bad files (known_wanted self.now.epochs (code_of self.now.event)
+            (head_of self.now.db.now).known))
             (λ _. Grows sums.old.entries sums.new.entries
-            (λ test. known_counts files (head_of self.now.db.now) (option_copied self.now.symbols) self.now.epochs (code_of self.now.event) test))
+            (λ test. known_counts files (head_of self.now.db.now)
+            (option_copied self.now.symbols) self.now.epochs (code_of self.now.event) test))
             result }
         ensures room { OnOk result (held_in_all sums.new.entries
-            ≤ held_in_all sums.old.entries + length (head_of self.now.db.now).known * most_counted) }
+            ≤ held_in_all sums.old.entries + length
+            (head_of self.now.db.now).known * most_counted) }
         ensures labels { OnOk result (AreSums (is_some self.now.symbols) sums.old.entries
             → AreSums (is_some self.now.symbols) sums.new.entries) }
         ensures reads { OnlyReads (D.files store.old) (D.files store.new) (D.moment store.old)
@@ -94,12 +99,15 @@ impl Query<'_> {
         requires { held_in_all sums.old.entries
             + length (head_of self.now.db.now).unknown * most_counted < 2 ^ 128 }
         ensures told { (files : Files) → D.files store.old ≡ Some files →
-            Gives (first_bad files (unknown_wanted self.now.epochs (code_of self.now.event) (head_of self.now.db.now).unknown))
+            Gives (first_bad files (unknown_wanted self.now.epochs (code_of self.now.event)
+            (head_of self.now.db.now).unknown))
             (λ _. Grows sums.old.entries sums.new.entries
-            (λ test. unknown_counts files (head_of self.now.db.now) self.now.epochs (code_of self.now.event) test))
+            (λ test. unknown_counts files (head_of self.now.db.now) self.now.epochs
+            (code_of self.now.event) test))
             result }
         ensures room { OnOk result (held_in_all sums.new.entries
-            ≤ held_in_all sums.old.entries + length (head_of self.now.db.now).unknown * most_counted) }
+            ≤ held_in_all sums.old.entries + length
+            (head_of self.now.db.now).unknown * most_counted) }
         ensures labels { OnOk result (AreSums (is_some self.now.symbols) sums.old.entries
             → AreSums (is_some self.now.symbols) sums.new.entries) }
         ensures reads { OnlyReads (D.files store.old) (D.files store.new) (D.moment store.old)
@@ -120,12 +128,16 @@ impl Query<'_> {
         sums: &mut BTreeMap<Label, u128>,
         row: KnownRow,
     ) -> Result<(), DbFault>
-        requires found { known_row (head_of self.now.db.now).known row.epoch row.image row.event ≡ Some row }
+        requires found { known_row (head_of self.now.db.now).known row.epoch row.image row.event
+            ≡ Some row }
         requires image { row.image < length (head_of self.now.db.now).names }
         requires room { held_in_all sums.old.entries + most_counted < 2 ^ 128 }
         ensures told { (files : Files) → D.files store.old ≡ Some files →
-            Gives (first_bad files (known_wanted self.now.epochs (code_of self.now.event) (row ∷ [])))
-            (λ _. Grows sums.old.entries sums.new.entries (λ test. known_count files (head_of self.now.db.now).names (option_copied self.now.symbols) self.now.epochs (code_of self.now.event) test row))
+            Gives (first_bad files (known_wanted self.now.epochs (code_of self.now.event)
+            (row ∷ [])))
+            (λ _. Grows sums.old.entries sums.new.entries (λ test. known_count files
+            (head_of self.now.db.now).names (option_copied self.now.symbols) self.now.epochs
+            (code_of self.now.event) test row))
             result }
         ensures room { OnOk result (held_in_all sums.new.entries
             ≤ held_in_all sums.old.entries + most_counted) }
@@ -149,12 +161,14 @@ impl Query<'_> {
         sums: &mut BTreeMap<Label, u128>,
         row: KnownRow,
     ) -> Result<(), DbFault>
-        requires found { known_row (head_of self.now.db.now).known row.epoch row.image row.event ≡ Some row }
+        requires found { known_row (head_of self.now.db.now).known row.epoch row.image row.event
+            ≡ Some row }
         requires image { row.image < length (head_of self.now.db.now).names }
         requires event { row.event ≡ code_of self.now.event }
         requires room { held_in_all sums.old.entries + most_counted < 2 ^ 128 }
         ensures told { (files : Files) → D.files store.old ≡ Some files →
-            AddsFile files (known_ref row) (label_at (option_copied self.now.symbols) (text_at (head_of self.now.db.now).names row.image))
+            AddsFile files (known_ref row) (label_at (option_copied self.now.symbols) (text_at
+            (head_of self.now.db.now).names row.image))
             sums.old.entries result sums.new.entries }
         ensures room { OnOk result (held_in_all sums.new.entries
             ≤ held_in_all sums.old.entries + most_counted) }
@@ -180,11 +194,14 @@ impl Query<'_> {
         sums: &mut BTreeMap<Label, u128>,
         row: UnknownRow,
     ) -> Result<(), DbFault>
-        requires found { unknown_row (head_of self.now.db.now).unknown row.epoch row.event ≡ Some row }
+        requires found { unknown_row (head_of self.now.db.now).unknown row.epoch row.event
+            ≡ Some row }
         requires room { held_in_all sums.old.entries + most_counted < 2 ^ 128 }
         ensures told { (files : Files) → D.files store.old ≡ Some files →
-            Gives (first_bad files (unknown_wanted self.now.epochs (code_of self.now.event) (row ∷ [])))
-            (λ _. Grows sums.old.entries sums.new.entries (λ test. unknown_count files self.now.epochs (code_of self.now.event) test row))
+            Gives (first_bad files (unknown_wanted self.now.epochs (code_of self.now.event)
+            (row ∷ [])))
+            (λ _. Grows sums.old.entries sums.new.entries
+            (λ test. unknown_count files self.now.epochs (code_of self.now.event) test row))
             result }
         ensures room { OnOk result (held_in_all sums.new.entries
             ≤ held_in_all sums.old.entries + most_counted) }
@@ -208,7 +225,8 @@ impl Query<'_> {
         sums: &mut BTreeMap<Label, u128>,
         row: UnknownRow,
     ) -> Result<(), DbFault>
-        requires found { unknown_row (head_of self.now.db.now).unknown row.epoch row.event ≡ Some row }
+        requires found { unknown_row (head_of self.now.db.now).unknown row.epoch row.event
+            ≡ Some row }
         requires event { row.event ≡ code_of self.now.event }
         requires room { held_in_all sums.old.entries + most_counted < 2 ^ 128 }
         ensures told { (files : Files) → D.files store.old ≡ Some files →

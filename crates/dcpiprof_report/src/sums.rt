@@ -61,8 +61,10 @@ fn go_on(
 ) -> Result<u128, AllocError>
     requires { held_in_all sums.old.entries + run.count < 2 ^ 128 }
     ensures counts { IfOk result (λ before. (test : Label → Bool) → KeepsTies test →
-        held test sums.new.entries + (if test (titled (option_copied symbols.entry) image.now (option_copied name.entry)) then before else 0)
-        ≡ held test sums.old.entries + (if test (titled (option_copied symbols.entry) image.now (option_copied run.entry.name)) then run.entry.count else 0)) }
+        held test sums.new.entries + (if test (titled (option_copied symbols.entry) image.now
+        (option_copied name.entry)) then before else 0)
+        ≡ held test sums.old.entries + (if test (titled (option_copied symbols.entry) image.now
+        (option_copied run.entry.name)) then run.entry.count else 0)) }
     ensures labels { OnOk result (AreSums (is_some symbols.entry) sums.old.entries
         → AreSums (is_some symbols.entry) sums.new.entries) }
 {
@@ -82,7 +84,8 @@ fn add_run(
 ) -> Result<(), AllocError>
     requires { held_in_all sums.old.entries + run.count < 2 ^ 128 }
     ensures counts { OnOk result (Grows sums.old.entries sums.new.entries
-        (λ test. if test (titled (option_copied symbols.entry) image.now (option_copied run.entry.name)) then run.entry.count else 0)) }
+        (λ test. if test (titled (option_copied symbols.entry) image.now
+        (option_copied run.entry.name)) then run.entry.count else 0)) }
     ensures labels { OnOk result (AreSums (is_some symbols.entry) sums.old.entries
         → AreSums (is_some symbols.entry) sums.new.entries) }
 {
@@ -127,7 +130,8 @@ fn label_of(
     image: &Name,
     name: Option<&Name>,
 ) -> Result<Label, AllocError>
-    ensures { IfOk result (λ label. label ≡ titled (option_copied symbols.entry) image.now (option_copied name.entry)) }
+    ensures { IfOk result (λ label. label ≡ titled (option_copied symbols.entry) image.now
+        (option_copied name.entry)) }
 {
     let image = image.copy(alloc)?;
     if symbols.is_none() {
