@@ -1,10 +1,10 @@
 #!/bin/sh
 # Counts a recording with `dcpi plain` and with an unproved counter in plain Rust, five times each in turn, compares what they
 # print byte by byte, and prints the best time of each, its greatest memory where /usr/bin/time is there, and the ratios.
-# usage: bench/plain.sh [RECORDING], by default examples/work-loads-short.trace
+# usage: bench/plain.sh [RECORDING], by default examples/shell-script.trace
 # YARDSTICK is the counter: a program, or the folder of a Cargo package `yardstick`, by default ../shared/yardstick.
 set -eu
-recording=${1:-$(dirname "$0")/../examples/work-loads-short.trace}
+recording=${1:-$(dirname "$0")/../examples/shell-script.trace}
 recording=$(cd "$(dirname "$recording")" && pwd)/$(basename "$recording")
 yardstick=${YARDSTICK:-$(dirname "$0")/../../shared/yardstick}
 yardstick=$(cd "$(dirname "$yardstick")" && pwd)/$(basename "$yardstick")
