@@ -8,6 +8,7 @@
 mod daemons;
 mod flushes;
 mod laws;
+mod outcomes;
 mod polled;
 mod progress;
 mod ringing;
@@ -17,5 +18,6 @@ mod storing;
 pub use daemons::Daemon;
 pub use flushes::Flush;
 pub use laws::{advances_are_the_runs, counts_agree, sides_fit_on};
+pub use outcomes::Outcome;
 pub use polled::Polled;
 pub use run_model::Advanced;

@@ -256,12 +256,14 @@ impl Progress {
         requires current { IsCurrent task.now self.old.applied self.old.epoch self.old }
         requires applied { self.old.applied ≤ length (records_of task.now) }
         requires entries { length (B.entries body.now) ≤ MOST_SAMPLES }
-        ensures only { self.new ≡ record self.old { gathered = self.new.gathered; noted = self.new.noted } }
+        ensures only { self.new
+            ≡ record self.old { gathered = self.new.gathered; noted = self.new.noted } }
         ensures noted { OnOk result (self.new.noted.items ≡ self.old.noted.items
             ++ drain_of (records_of task.now) (state_of self.old)
             (record { note = note; entries = B.entries body.now }) ∷ []) }
         ensures refused { OnErr result (self.new.noted.items ≡ self.old.noted.items) }
-        ensures current { OnOk result (IsCurrent task.now self.old.applied self.old.epoch self.new) }
+        ensures current { OnOk result
+            (IsCurrent task.now self.old.applied self.old.epoch self.new) }
     {
         let mut entries = Vec::new(alloc);
         body.copy_to(&mut entries)?;
