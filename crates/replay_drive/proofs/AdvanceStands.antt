@@ -1,5 +1,5 @@
 -- After an advance the replay stands where the run stands after that advance.
-use Rattle.std.proofs.Common.{◌≡◌, refl, sym, ◌∙◌, ap, subst, ℕ, zero, suc, ◌+◌, ◌*◌, ◌<◌, ◌≤◌, List, [], ◌∷◌, ◌++◌, length, map, arith, Bool, true, false, if◌then◌else◌, Some, None, Option}
+use Rattle.std.proofs.Common.{◌≡◌, refl, sym, ◌∙◌, ap, subst, ℕ, suc, ◌+◌, ◌<◌, ◌≤◌, List, [], ◌∷◌, length, map, arith, Bool, true, false, if◌then◌else◌, Some, None, Option}
 use Rattle.std.specs.Prelude.{slice_get, is_none, ◌&&◌}
 use Rattle.sample_key.specs.declared.losses.Pace.{Pace}
 use Rattle.sample_key.specs.declared.losses.Pace.TheVariants.{Free}
@@ -7,7 +7,6 @@ use Rattle.trace_model.specs.Recording.{Recording}
 use Rattle.trace_model.specs.Streams.{records_in}
 use Rattle.trace_model.specs.declared.notices.Record.{Record}
 use Rattle.driver_model.specs.Handover.{FarSide}
-use Rattle.database_model.specs.Runs.{Drained}
 use Rattle.store_io.specs.Files.{Files}
 use Rattle.database_state.specs.declared.faults.DbFault.{DbFault}
 use Rattle.lane_side.specs.Plain.{Plain}
@@ -17,7 +16,7 @@ use Rattle.run_model.specs.Daemon.{Daemon, Advancing, advance, ask, begin, first
 use Rattle.run_model.specs.Running.{Processor, System, after_advance, advance_in, fars_of, rung, rung_if}
 use Rattle.run_model.specs.declared.advances.Advanced.{Advanced}
 use Rattle.run_laws.proofs.Systems.{HoldsAt, SystemHolds}
-use Rattle.dcpid_core.specs.Advancing.{Advances, EndsPart, FaultAfter, MovesOn, Outcome, advance_of, commits, is_moved}
+use Rattle.dcpid_core.specs.Advancing.{EndsPart, FaultAfter, Outcome, advance_of, commits, is_moved}
 use Rattle.dcpid_core.specs.Counting.{AdvancesAsTheRun, Agree, CountsAgree, fars_in}
 use Rattle.dcpid_core.specs.Collection.{Collection, FitFrom, rang, rang_if}
 use Rattle.dcpid_core.specs.declared.flushes.Flush.{Flush}

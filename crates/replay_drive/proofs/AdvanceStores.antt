@@ -1,6 +1,6 @@
 -- What an advance leaves of the parts and of the store.
-use Rattle.std.proofs.Common.{◌≡◌, refl, sym, ◌∙◌, ap, subst, ℕ, zero, suc, ◌+◌, ◌<◌, ◌≤◌, List, [], ◌∷◌, ◌++◌, length, arith, Bool, true, false, if◌then◌else◌, Some, None, Option, ◌⊎◌, inl, inr}
-use Rattle.std.specs.Prelude.{is_none, take}
+use Rattle.std.proofs.Common.{◌≡◌, refl, sym, ◌∙◌, ap, subst, ℕ, ◌+◌, ◌≤◌, List, Bool, true, false, Some, None, Option, inl, inr}
+use Rattle.std.specs.Prelude.{take}
 use Rattle.sample_key.specs.declared.losses.Pace.TheVariants.{Free}
 use Rattle.trace_model.specs.Parts.{epoch_after}
 use Rattle.trace_model.specs.Recording.{Recording}
@@ -17,20 +17,21 @@ use Rattle.run_model.specs.Daemon.{Advancing, Daemon}
 use Rattle.run_model.specs.Running.{System, after_advance, after_steps, record_of}
 use Rattle.run_model.specs.declared.advances.Advanced.{Advanced}
 use Rattle.run_laws.proofs.Systems.{SystemHolds}
-use Rattle.dcpid_core.specs.Advancing.{Advances, EndsPart, FaultAfter, MovesOn, Outcome, advance_of, commits}
+use Rattle.dcpid_core.specs.Advancing.{Advances, EndsPart, FaultAfter, Outcome, advance_of, commits}
 use Rattle.dcpid_core.specs.Counting.{AdvancesAsTheRun}
 use Rattle.dcpid_core.specs.Collection.{Collection}
-use Rattle.dcpid_core.specs.Parts.{part_in}
-use Rattle.replay_drive.specs.Standing.{StandsAt, without_drains}
-use Rattle.replay_drive.specs.Growing.{KeepsParts, KeepsStore, parts_at_most}
+use Rattle.dcpid_core.specs.Storing.{HasFailed, IsCommitted, Part}
+use Rattle.replay_drive.specs.Standing.{StandsAt}
+use Rattle.replay_drive.specs.Growing.{KeepsParts, KeepsStore}
+use Rattle.replay_drive.specs.Replaying.{FaultRests}
 use Rattle.replay_drive.proofs.AdvanceStands.{IsRunsAdvance, none_before, is_none_none, both_hold, runs_advance}
 use Rattle.replay_drive.proofs.PartsKept.{next_part, parts_ended, parts_moved, positions}
 use Rattle.replay_drive.proofs.StoreKept.{FollowsOn, store_fails, store_grows, store_rests}
 
 -- what is kept of the parts and of the store
-pub record KeepsAll {D : Type 0} (files : D → Option Files) (moment : D → ℕ) (left : D → ℕ → Files → Type 0) (trace : Recording) (kept : Recorded) (begin : Head) (start now : D) (d : Collection) : Type 0 where
+pub record KeepsAll {D : Type 0} (files : D → Option Files) (faults moment : D → ℕ) (left : D → ℕ → Files → Type 0) (trace : Recording) (kept : Recorded) (begin : Head) (start now : D) (d : Collection) : Type 0 where
   pub parts : KeepsParts trace d
-  pub store : KeepsStore files moment left trace kept begin start now d
+  pub store : KeepsStore files faults moment left trace kept begin start now d.part d.head d.failure
 
 -- where a fault is kept nothing is said of the parts
 none_kept : (trace : Recording) (e : Collection) (fault : DbFault) → e.failure ≡ Some fault → KeepsParts trace e
@@ -39,15 +40,19 @@ none_kept trace e fault is = record { part = λ none. some_none e.failure fault 
     some_none : {A B : Type 0} (o : Option A) (x : A) → o ≡ Some x → o ≡ None → B
     some_none o x a b = cc
 
--- no more parts may be there
-more_parts : (d : Collection) (e : Collection) (x : Advanced) → e.part ≡ d.part → FaultAfter d.failure x e.failure → parts_at_most d ≤ parts_at_most e
-more_parts d e x part fault = by d.failure e.failure fault
-  where
-    by : (o p : Option DbFault) → FaultAfter o x p → (if is_none o then d.part else d.part + 1) ≤ (if is_none p then e.part else e.part + 1)
-    by None None h = omega (arith, part)
-    by None (Some g) h = omega (arith, part)
-    by (Some f) None h = absurd cc
-    by (Some f) (Some g) h = omega (arith, part)
+-- a fault after an advance that commits nothing
+fault_rests : (o p : Option DbFault) (x : Advanced) → FaultAfter o x p → FaultRests o p
+fault_rests (Some fault) p x h = h
+fault_rests None p x (inl none) = inl none
+fault_rests None p x (inr some) = inr some.1
+
+-- the same store, of a daemon with these parts
+pub store_as : {D : Type 0} (files : D → Option Files) (faults moment : D → ℕ) (left : D → ℕ → Files → Type 0) (trace : Recording) (kept : Recorded) (begin : Head) (start now : D) (p q : ℕ) (h k : Head) (o r : Option DbFault) → p ≡ q → h ≡ k → o ≡ r
+    → KeepsStore files faults moment left trace kept begin start now p h o → KeepsStore files faults moment left trace kept begin start now q k r
+store_as files faults moment left trace kept begin start now p q h k o r part head fault keeps =
+    subst (λ (n : ℕ). KeepsStore files faults moment left trace kept begin start now n k r) part
+    (subst (λ (z : Head). KeepsStore files faults moment left trace kept begin start now p z r) head
+    (subst (λ (z : Option DbFault). KeepsStore files faults moment left trace kept begin start now p h z) fault keeps))
 
 ends_stores : {D : Type 0} (files : D → Option Files) (faults moment : D → ℕ) (left : D → ℕ → Files → Type 0) (trace : Recording) (run first_epoch : ℕ) (d e : Collection) (system after_system : System) (rest : List Step)
     (begin : Head) (start store after : D) (o : Option DbFault)
@@ -56,19 +61,28 @@ ends_stores : {D : Type 0} (files : D → Option Files) (faults moment : D → �
     → (advance_of d).daemon.applied ≡ after_system.daemon.applied → (advance_of d).daemon.epoch ≡ after_system.daemon.epoch → d.state.drains ≡ after_system.daemon.drains
     → after_system.daemon.epoch ≡ epoch_after first_epoch (take after_system.daemon.applied (records_in trace)) → AllOf (λ x. x.at ≤ d.state.applied) d.state.drains
     → commits d (advance_of d).answer ≡ true → e.failure ≡ o → EndsPart files faults moment left d (advance_of d) store o e after
-    → KeepsAll files moment left trace (record_of run first_epoch (after_steps Free trace after_system rest)) begin start store d
-    → KeepsAll files moment left trace (record_of run first_epoch (after_steps Free trace after_system rest)) begin start after e
+    → KeepsAll files faults moment left trace (record_of run first_epoch (after_steps Free trace after_system rest)) begin start store d
+    → KeepsAll files faults moment left trace (record_of run first_epoch (after_steps Free trace after_system rest)) begin start after e
 ends_stores files faults moment left trace run first_epoch d e system after_system rest begin start store after None follows is run_is first_is fine step applied epoch drains books before commit none h keeps =
     let next = next_part trace run first_epoch d (advance_of d) after_system rest is run_is first_is fine step.kind commit applied epoch drains books keeps.parts in
+    let kept = record_of run first_epoch (after_steps Free trace after_system rest) in
+    let now = store_as files faults moment left trace kept begin start store d.part d.part d.head d.head d.failure None refl refl fine keeps.store in
+    let committed = subst (λ (p : Part). IsCommitted files faults moment left p e.head store after) next.same h.1 in
     record {
       parts = parts_ended trace d e (advance_of d) is fine step.kind step.left before commit (ap (λ (c : Collection). c.state) h.0) (ap (λ (c : Collection). c.part) h.0) (ap (λ (c : Collection). c.noted) h.0) keeps.parts;
-      store = store_grows files faults moment left trace _ begin e.head start store after d e (part_in d (advance_of d).daemon.epoch false []) follows next refl fine (ap (λ (c : Collection). c.part) h.0) refl none keeps.store h.1;
+      store = store_as files faults moment left trace kept begin start after (d.part + 1) e.part e.head e.head None e.failure (sym (ap (λ (c : Collection). c.part) h.0)) refl (sym none)
+          (store_grows files faults moment left trace kept begin d.head e.head start store after d.part follows next.within now committed);
     }
 ends_stores files faults moment left trace run first_epoch d e system after_system rest begin start store after (Some fault) follows is run_is first_is fine step applied epoch drains books before commit some h keeps =
     let next = next_part trace run first_epoch d (advance_of d) after_system rest is run_is first_is fine step.kind commit applied epoch drains books keeps.parts in
+    let kept = record_of run first_epoch (after_steps Free trace after_system rest) in
+    let now = store_as files faults moment left trace kept begin start store d.part d.part d.head d.head d.failure None refl refl fine keeps.store in
+    let failed = subst (λ (p : Part). HasFailed files faults moment left p fault store after) next.same h.1 in
     record {
       parts = none_kept trace e fault some;
-      store = store_fails files faults moment left trace _ begin start store after d e (part_in d (advance_of d).daemon.epoch false []) fault follows next refl fine (ap (λ (c : Collection). c.part) h.0) some keeps.store h.1;
+      store = store_as files faults moment left trace kept begin start after d.part e.part d.head e.head (Some fault) e.failure
+          (sym (ap (λ (c : Collection). c.part) h.0)) (sym (ap (λ (c : Collection). c.head) h.0)) (sym some)
+          (store_fails files faults moment left trace kept begin d.head start store after d.part fault follows next.within now failed);
     }
 
 outcome_stores : {D : Type 0} (files : D → Option Files) (faults moment : D → ℕ) (left : D → ℕ → Files → Type 0) (trace : Recording) (run first_epoch : ℕ) (d e : Collection) (system after_system : System) (rest : List Step)
@@ -78,8 +92,8 @@ outcome_stores : {D : Type 0} (files : D → Option Files) (faults moment : D �
     → (advance_of d).daemon.applied ≡ after_system.daemon.applied → (advance_of d).daemon.epoch ≡ after_system.daemon.epoch → (d.failure ≡ None → d.state.drains ≡ after_system.daemon.drains)
     → after_system.daemon.epoch ≡ epoch_after first_epoch (take after_system.daemon.applied (records_in trace)) → (d.failure ≡ None → AllOf (λ x. x.at ≤ d.state.applied) d.state.drains)
     → commits d (advance_of d).answer ≡ b → Outcome files faults moment left b d (advance_of d) store e after
-    → KeepsAll files moment left trace (record_of run first_epoch (after_steps Free trace after_system rest)) begin start store d
-    → KeepsAll files moment left trace (record_of run first_epoch (after_steps Free trace after_system rest)) begin start after e
+    → KeepsAll files faults moment left trace (record_of run first_epoch (after_steps Free trace after_system rest)) begin start store d
+    → KeepsAll files faults moment left trace (record_of run first_epoch (after_steps Free trace after_system rest)) begin start after e
 outcome_stores files faults moment left trace run first_epoch d e system after_system rest begin start store after true follows is run_is first_is step applied epoch drains books before commit h keeps =
     let fine = is_none_none d.failure (both_hold _ _ _ commit) in
     ends_stores files faults moment left trace run first_epoch d e system after_system rest begin start store after e.failure follows is run_is first_is fine step applied epoch (drains fine) books (before fine) commit refl h keeps
@@ -87,9 +101,9 @@ outcome_stores {D = D} files faults moment left trace run first_epoch d e system
     let fine : e.failure ≡ None → d.failure ≡ None = none_before d.failure (advance_of d).answer e.failure h.fault in
     record {
       parts = parts_moved trace d e (advance_of d) store after is fine step.kind step.left commit h keeps.parts;
-      store = subst (λ (s : D). KeepsStore files moment left trace (record_of run first_epoch (after_steps Free trace after_system rest)) begin start s e) (sym h.untouched)
-          (store_rests files moment left trace _ begin start store d e (ap (λ (c : Collection). c.part) h.moved) (ap (λ (c : Collection). c.head) h.moved) fine
-          (more_parts d e (advance_of d).answer (ap (λ (c : Collection). c.part) h.moved) h.fault) keeps.store);
+      store = subst (λ (s : D). KeepsStore files faults moment left trace (record_of run first_epoch (after_steps Free trace after_system rest)) begin start s e.part e.head e.failure) (sym h.untouched)
+          (store_as files faults moment left trace _ begin start store d.part e.part d.head e.head e.failure e.failure (sym (ap (λ (c : Collection). c.part) h.moved)) (sym (ap (λ (c : Collection). c.head) h.moved)) refl
+          (store_rests files faults moment left trace _ begin start store d.part d.head d.failure e.failure (fault_rests d.failure e.failure (advance_of d).answer h.fault) keeps.store));
     }
 
 pub advance_stores : {D : Type 0} (files : D → Option Files) (faults moment : D → ℕ) (left : D → ℕ → Files → Type 0) → AdvancesAsTheRun → (trace : Recording) (run first_epoch : ℕ) (lanes : List Seen) (sides : List Plain)
@@ -97,8 +111,8 @@ pub advance_stores : {D : Type 0} (files : D → Option Files) (faults moment : 
     → StandsAt trace run first_epoch lanes sides d system → SystemHolds Free trace first_epoch system → SystemHolds Free trace first_epoch (after_advance Free trace system)
     → run ≡ begin.runs + 1 → first_epoch ≡ begin.epoch
     → Advances files faults moment left (advance_of d) d store answer e after
-    → KeepsAll files moment left trace (record_of run first_epoch (after_steps Free trace (after_advance Free trace system) rest)) begin start store d
-    → KeepsAll files moment left trace (record_of run first_epoch (after_steps Free trace (after_advance Free trace system) rest)) begin start after e
+    → KeepsAll files faults moment left trace (record_of run first_epoch (after_steps Free trace (after_advance Free trace system) rest)) begin start store d
+    → KeepsAll files faults moment left trace (record_of run first_epoch (after_steps Free trace (after_advance Free trace system) rest)) begin start after e
 advance_stores files faults moment left law trace run first_epoch lanes sides d e system rest begin start store after answer stands holds held runs epochs h keeps =
     let step = runs_advance law trace run first_epoch lanes sides d system stands holds in
     let follows : FollowsOn (record_of run first_epoch (after_steps Free trace (after_advance Free trace system) rest)) begin = record { run = runs; first_epoch = epochs } in

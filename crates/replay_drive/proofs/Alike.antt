@@ -1,5 +1,5 @@
 -- An advance does not look at the drains: daemons that differ in them alone do alike.
-use Rattle.std.proofs.Common.{◌≡◌, refl, sym, ◌∙◌, ap, subst, ℕ, List, [], ◌∷◌, Bool, true, false, if◌then◌else◌, Some, None, Option}
+use Rattle.std.proofs.Common.{◌≡◌, refl, sym, ◌∙◌, ap, ℕ, List, Bool, true, false, if◌then◌else◌, Some, None, Option}
 use Rattle.std.specs.Prelude.{slice_get}
 use Rattle.sample_key.specs.declared.losses.Pace.{Pace}
 use Rattle.trace_model.specs.declared.notices.Record.{Record}

@@ -13,3 +13,8 @@ mod PartsKept
 mod AdvanceStores
 mod StepsTaken
 mod StepsMany
+mod Started
+mod RunWhole
+mod RunEnded
+mod EndStores
+mod ReplayWhole

@@ -1,5 +1,5 @@
 -- Which part of its run a daemon has noted, and that it is the next one of the whole run's record.
-use Rattle.std.proofs.Common.{◌≡◌, refl, sym, ◌∙◌, ap, subst, ℕ, zero, suc, ◌+◌, ◌<◌, ◌≤◌, List, [], ◌∷◌, ◌++◌, length, arith, Bool, true, false, if◌then◌else◌, Some, None, Option, ◌⊎◌, inl, inr, eqb, eq-eqb, append-nil}
+use Rattle.std.proofs.Common.{◌≡◌, refl, sym, ◌∙◌, ap, subst, ℕ, zero, suc, ◌+◌, ◌<◌, ◌≤◌, List, [], ◌∷◌, ◌++◌, arith, Bool, true, false, if◌then◌else◌, Some, None, Option, inl, inr, eqb, eq-eqb}
 use Rattle.std.specs.Prelude.{slice_get, is_none, ◌&&◌, take, filter}
 use Rattle.std.specs.List.{count_by}
 use Rattle.std.proofs.lemmas.Bool.{cond-true, cond-false}
@@ -16,26 +16,24 @@ use Rattle.trace_model.specs.declared.notices.Record.{Record}
 use Rattle.trace_model.specs.declared.notices.Record.TheVariants.{Scan, Load, Unload, Exec, Exit, Kernel, Drain, Merge, Epoch}
 use Rattle.trace_model.specs.declared.notices.Step.{Step}
 use Rattle.driver_model.specs.Lists.{AllOf}
-use Rattle.database_model.specs.Runs.{Drained, Recorded, Segment}
-use Rattle.store_io.specs.Files.{Files}
-use Rattle.database_state.specs.Heads.{Head}
+use Rattle.database_model.specs.Runs.{Drained, Segment}
 use Rattle.database_state.specs.declared.faults.DbFault.{DbFault}
-use Rattle.growth_model.specs.Grown.{epoch_after_parts, part_count}
+use Rattle.growth_model.specs.Grown.{epoch_after_parts}
 use Rattle.run_model.specs.Books.{IsBefore}
 use Rattle.run_model.specs.Daemon.{Advancing, Daemon, drain_of}
-use Rattle.run_model.specs.Running.{System, after_advance, after_steps, record_of}
-use Rattle.run_model.specs.Shares.{drains_in_part, last_part, segment_of}
+use Rattle.run_model.specs.Running.{System, after_steps, record_of}
+use Rattle.run_model.specs.Shares.{drains_in_part, last_part}
 use Rattle.run_laws.proofs.Basics.{eqb_apart}
 use Rattle.run_laws.proofs.Growing.{part_later, parts_stand}
 use Rattle.run_laws.proofs.Keeping.{count_next}
-use Rattle.run_laws.proofs.Systems.{SystemHolds}
-use Rattle.dcpid_core.specs.Advancing.{EndsPart, MovesOn, Outcome, advance_of, commits, ends_next, is_moved}
+use Rattle.dcpid_core.specs.Advancing.{MovesOn, commits, ends_next, is_moved}
 use Rattle.dcpid_core.specs.Collection.{Collection}
 use Rattle.dcpid_core.specs.Parts.{part_in}
-use Rattle.dcpid_core.specs.Polling.{drained, passed}
+use Rattle.dcpid_core.specs.Storing.{Part}
+use Rattle.dcpid_core.specs.Polling.{drained}
 use Rattle.replay_drive.specs.Growing.{KeepsParts}
 use Rattle.replay_drive.proofs.Polling.{TakenBy}
-use Rattle.replay_drive.proofs.AdvanceStands.{IsAnswer, IsRunsAdvance, Kind, Moves, Waits, Ends, Asks}
+use Rattle.replay_drive.proofs.AdvanceStands.{Kind, Moves, Waits, Ends, Asks}
 use Rattle.replay_drive.proofs.StoreKept.{IsNextPart}
 
 -- ---- records by parts
@@ -202,11 +200,11 @@ next_part trace run first_epoch d done system rest is run_is first_is fine kind 
     let mine : d.noted ≡ drains_in_part records d.part kept.drains =
     keeps.noted fine ∙ ap (λ (z : List Drained). drains_in_part records d.part z) drains
     ∙ sym (parts_stand Free trace system rest d.part (omega (arith, now))) in
+    let at_epoch : done.daemon.epoch ≡ epoch_after_parts first_epoch records (d.part + 1) =
+    epoch ∙ books ∙ epoch_by_parts first_epoch records system.daemon.applied ∙ ap (λ n. epoch_after_parts first_epoch records n) now in
     record {
-      images = ap (λ (t : Recording). t.images) is;
-      records = ap records_in is;
-      epoch = epoch ∙ books ∙ epoch_by_parts first_epoch records system.daemon.applied ∙ ap (λ n. epoch_after_parts first_epoch records n) now;
-      segment = segment_parts run_is refl (sym mid) first_is mine (sym (cond-false (eqb d.part (last_part records)) kept.losses [] mid));
+      same = whole_part (ap (λ (t : Recording). t.images) is) (ap records_in is) at_epoch
+          (segment_parts run_is refl (sym mid) first_is mine (sym (cond-false (eqb d.part (last_part records)) kept.losses [] mid)));
       within = omega (arith, most);
     }
   where
@@ -216,3 +214,9 @@ next_part trace run first_epoch d done system rest is run_is first_is fine kind 
     segment_parts : {r1 r2 p1 p2 : ℕ} {l1 l2 : Bool} {f1 f2 : ℕ} {d1 d2 : List Drained} {x1 x2 : List (List Loss)} → r1 ≡ r2 → p1 ≡ p2 → l1 ≡ l2 → f1 ≡ f2 → d1 ≡ d2 → x1 ≡ x2
         → segment_with r1 p1 l1 f1 d1 x1 ≡ segment_with r2 p2 l2 f2 d2 x2
     segment_parts r p l f d x = λ i. segment_with (r i) (p i) (l i) (f i) (d i) (x i)
+
+    part_with : List (List ℕ) → List Record → ℕ → Segment → Part
+    part_with images records epoch segment = record { images = images; records = records; head = d.head; epoch = epoch; segment = segment }
+
+    whole_part : {i1 i2 : List (List ℕ)} {r1 r2 : List Record} {e1 e2 : ℕ} {s1 s2 : Segment} → i1 ≡ i2 → r1 ≡ r2 → e1 ≡ e2 → s1 ≡ s2 → part_with i1 r1 e1 s1 ≡ part_with i2 r2 e2 s2
+    whole_part images records epoch segment = λ i. part_with (images i) (records i) (epoch i) (segment i)

@@ -1,5 +1,5 @@
 -- One lane and its side as a processor of a run.
-use Rattle.std.proofs.Common.{◌≡◌, refl, sym, ◌∙◌, ap, ℕ, List, Some}
+use Rattle.std.proofs.Common.{◌≡◌, sym, ◌∙◌, ap, ℕ, List, Some}
 use Rattle.std.specs.Prelude.{slice_get, slice_set}
 use Rattle.sample_key.specs.declared.losses.Pace.{Pace}
 use Rattle.trace_model.specs.Recording.{Recording}

@@ -1,12 +1,11 @@
 -- After a poll the replay stands where the run stands after that poll.
-use Rattle.std.proofs.Common.{◌≡◌, refl, sym, ◌∙◌, ap, subst, ℕ, zero, suc, ◌+◌, ◌*◌, ◌/◌, ◌<◌, ◌≤◌, List, [], ◌∷◌, ◌++◌, length, map, arith, Bool, true, false, if◌then◌else◌, Some, None, Option, ◌⊎◌, inl, inr}
+use Rattle.std.proofs.Common.{◌≡◌, refl, sym, ◌∙◌, ap, subst, ℕ, zero, suc, ◌+◌, ◌*◌, ◌≤◌, List, [], ◌∷◌, ◌++◌, length, arith, Bool, true, false, Some, None, Option, inl, inr}
 use Rattle.std.specs.Prelude.{slice_get, slice_set, slice_index_or}
 use Rattle.sample_key.specs.Sent.{Sent}
 use Rattle.sample_key.specs.declared.keys.Marked.{Marked}
 use Rattle.sample_key.specs.declared.losses.Pace.TheVariants.{Free}
 use Rattle.trace_model.specs.Recording.{Recording}
 use Rattle.trace_model.specs.Streams.{stream_of, records_in}
-use Rattle.trace_model.specs.declared.notices.Record.{Record}
 use Rattle.driver_model.specs.Lists.{SomeOf}
 use Rattle.driver_model.specs.Handover.{FarSide, last_from, rung_of, NeverFallsFrom, WasRung}
 use Rattle.driver_model.specs.Invariant.{DriverInvariant}
@@ -27,10 +26,10 @@ use Rattle.dcpid_core.specs.Polling.{Polls, drained, passed}
 use Rattle.dcpid_core.specs.declared.flushes.Flush.{Flush}
 use Rattle.dcpid_core.specs.declared.polled.Polled.{Polled}
 use Rattle.dcpid_core.proofs.Rungs.{fit_same}
-use Rattle.replay_drive.specs.Players.{IsPlayer, IsGivenBack, ArePlayers, processor_of, processors_of}
+use Rattle.replay_drive.specs.Players.{IsPlayer, IsGivenBack, processor_of, processors_of}
 use Rattle.replay_drive.specs.Standing.{StandsAt, without_drains}
 use Rattle.replay_drive.proofs.Among.{player_here, players_side, processor_there, side_set, set_got}
-use Rattle.replay_drive.proofs.Polling.{PolledSome, PolledNone, PollStep, TakenBy, polls_as}
+use Rattle.replay_drive.proofs.Polling.{PollStep, TakenBy, polls_as}
 
 -- ---- a player again
 

@@ -1,14 +1,14 @@
 -- What a poll of the daemon makes of a processor: over a plain side it is that poll of the run.
-use Rattle.std.proofs.Common.{◌≡◌, refl, sym, ◌∙◌, ap, subst, ℕ, zero, suc, ◌+◌, ◌%◌, ◌≤◌, List, [], ◌∷◌, ◌++◌, length, arith, Some, None, Option, ◌⊎◌, inl, inr}
+use Rattle.std.proofs.Common.{◌≡◌, refl, sym, ◌∙◌, ap, subst, ℕ, zero, suc, ◌+◌, ◌%◌, ◌≤◌, List, [], ◌∷◌, ◌++◌, length, arith, Some, None, ◌⊎◌, inl, inr}
 use Rattle.std.specs.Prelude.{slice_get}
 use Rattle.sample_key.specs.Sent.{Sent}
 use Rattle.sample_key.specs.declared.keys.Marked.{Marked}
 use Rattle.driver_model.specs.Driver.{Driver}
 use Rattle.driver_model.specs.Sides.{Side}
 use Rattle.driver_model.specs.Runs.{word_of}
-use Rattle.driver_model.specs.Handover.{FarSide, given_of, side_called, side_poll_buffer, side_poll_table, far_took_buffer, far_took_table, far_gave_buffer, far_gave_table, WasRung}
+use Rattle.driver_model.specs.Handover.{FarSide, given_of, side_called, side_poll_buffer, side_poll_table, far_took_table, far_gave_table, WasRung}
 use Rattle.lane_side.specs.Plain.{Plain}
-use Rattle.run_model.specs.Running.{Processor, counts_of, words_of, waiting_at, poll_buffer, poll_table, polled}
+use Rattle.run_model.specs.Running.{Processor, counts_of, waiting_at, poll_buffer, poll_table, polled}
 use Rattle.run_laws.proofs.Basics.{IsFront}
 use Rattle.cpu_lane.specs.Runs.{HasLeft}
 use Rattle.dcpid_core.specs.Flushes.{flush_took}

@@ -1,5 +1,5 @@
 -- Many steps, one after the other.
-use Rattle.std.proofs.Common.{◌≡◌, refl, sym, ◌∙◌, ap, subst, ℕ, zero, suc, ◌+◌, ◌-◌, ◌<◌, ◌≤◌, List, [], ◌∷◌, ◌++◌, length, take, drop, arith, Bool, true, false, Some, None, Option, append-nil, append_assoc}
+use Rattle.std.proofs.Common.{◌≡◌, refl, sym, ◌∙◌, ap, subst, ℕ, zero, suc, ◌+◌, ◌-◌, ◌<◌, ◌≤◌, List, [], ◌∷◌, ◌++◌, length, take, drop, arith, true, Some, Option, append-nil, append_assoc}
 use Rattle.std.specs.Prelude.{slice_get}
 use Rattle.trace_model.specs.Recording.{Recording}
 use Rattle.trace_model.specs.declared.notices.Step.{Step}
@@ -11,11 +11,11 @@ use Rattle.replay_drive.proofs.StepsTaken.{taken_none}
 use Rattle.replay_drive.specs.declared.replays.Replay.{Replay}
 
 -- the store of a run of these steps is kept from the first to the second
-abbrev pub StoresOf : {D : Type 0} → (D → Option Files) → (D → ℕ) → (D → ℕ → Files → Type 0) → Replay → Replay → D → D → List Step → Type 0
-StoresOf {D} files moment left before after old new steps = (trace : Recording) (run first_epoch : ℕ) (done rest : List Step) (begin : Head) (start : D)
+abbrev pub StoresOf : {D : Type 0} → (D → Option Files) → (D → ℕ) → (D → ℕ) → (D → ℕ → Files → Type 0) → Replay → Replay → D → D → List Step → Type 0
+StoresOf {D} files faults moment left before after old new steps = (trace : Recording) (run first_epoch : ℕ) (done rest : List Step) (begin : Head) (start : D)
     → HasTaken trace run first_epoch done before
-    → IsStored files moment left trace run first_epoch (done ++ (steps ++ rest)) begin start old before
-    → IsStored files moment left trace run first_epoch (done ++ (steps ++ rest)) begin start new after
+    → IsStored files faults moment left trace run first_epoch (done ++ (steps ++ rest)) begin start old before
+    → IsStored files faults moment left trace run first_epoch (done ++ (steps ++ rest)) begin start new after
 
 -- one more of a list of steps
 pub steps_push : (done steps : List Step) (i : ℕ) (x : Step) → slice_get steps i ≡ Some x → (done ++ take i steps) ++ x ∷ [] ≡ done ++ take (i + 1) steps
@@ -46,14 +46,14 @@ pub step_taken : (before mid after : Replay) (steps : List Step) (i : ℕ) (x : 
 step_taken before mid after steps i x at so_far step = λ trace run first_epoch done h.
     subst (λ (z : List Step). HasTaken trace run first_epoch z after) (steps_push done steps i x at) (step trace run first_epoch (done ++ take i steps) (so_far trace run first_epoch done h))
 
-pub step_stored : {D : Type 0} (files : D → Option Files) (moment : D → ℕ) (left : D → ℕ → Files → Type 0) (before mid after : Replay) (old now new : D) (steps : List Step) (i : ℕ) (x : Step)
-    → slice_get steps i ≡ Some x → TakesSteps before mid (take i steps) → StoresOf files moment left before mid old now steps → StoresStep files moment left mid after now new x
-    → StoresOf files moment left before after old new steps
-step_stored files moment left before mid after old now new steps i x at taken so_far step = λ trace run first_epoch done rest begin start h stored.
+pub step_stored : {D : Type 0} (files : D → Option Files) (faults moment : D → ℕ) (left : D → ℕ → Files → Type 0) (before mid after : Replay) (old now new : D) (steps : List Step) (i : ℕ) (x : Step)
+    → slice_get steps i ≡ Some x → TakesSteps before mid (take i steps) → StoresOf files faults moment left before mid old now steps → StoresStep files faults moment left mid after now new x
+    → StoresOf files faults moment left before after old new steps
+step_stored files faults moment left before mid after old now new steps i x at taken so_far step = λ trace run first_epoch done rest begin start h stored.
     let all = steps_rest done steps rest i x at in
-    subst (λ (z : List Step). IsStored files moment left trace run first_epoch z begin start new after) all
+    subst (λ (z : List Step). IsStored files faults moment left trace run first_epoch z begin start new after) all
     (step trace run first_epoch (done ++ take i steps) (drop (i + 1) steps ++ rest) begin start (taken trace run first_epoch done h)
-    (subst (λ (z : List Step). IsStored files moment left trace run first_epoch z begin start now mid) (sym all) (so_far trace run first_epoch done rest begin start h stored)))
+    (subst (λ (z : List Step). IsStored files faults moment left trace run first_epoch z begin start now mid) (sym all) (so_far trace run first_epoch done rest begin start h stored)))
 
 -- it is under way still
 pub under_way : (before after : Replay) (steps : List Step) → IsUnderWay before → TakesSteps before after steps → IsUnderWay after
@@ -77,18 +77,18 @@ repeated_split (suc n) k round rest =
     ∙ sym (append_assoc round (repeated (n + 1 + k) round) rest)
     ∙ ap (λ m. repeated m round ++ rest) more
 
-pub round_stored : {D : Type 0} (files : D → Option Files) (moment : D → ℕ) (left : D → ℕ → Files → Type 0) (before mid after : Replay) (old now new : D) (n count : ℕ) (round : List Step) → n < count
-    → TakesSteps before mid (repeated n round) → StoresOf files moment left before mid old now (repeated count round) → StoresSteps files moment left mid after now new round
-    → StoresOf files moment left before after old new (repeated count round)
-round_stored files moment left before mid after old now new n count round lt taken so_far once = λ trace run first_epoch done rest begin start h stored.
+pub round_stored : {D : Type 0} (files : D → Option Files) (faults moment : D → ℕ) (left : D → ℕ → Files → Type 0) (before mid after : Replay) (old now new : D) (n count : ℕ) (round : List Step) → n < count
+    → TakesSteps before mid (repeated n round) → StoresOf files faults moment left before mid old now (repeated count round) → StoresSteps files faults moment left mid after now new round
+    → StoresOf files faults moment left before after old new (repeated count round)
+round_stored files faults moment left before mid after old now new n count round lt taken so_far once = λ trace run first_epoch done rest begin start h stored.
     let k : ℕ = count - (n + 1) in
     let is : n + 1 + k ≡ count = omega (arith, lt) in
     let all : (done ++ repeated n round) ++ (round ++ (repeated k round ++ rest)) ≡ done ++ (repeated count round ++ rest) =
     append_assoc done (repeated n round) (round ++ (repeated k round ++ rest))
     ∙ ap {B = List Step} (λ z. done ++ z) (repeated_split n k round rest ∙ ap (λ m. repeated m round ++ rest) is) in
-    subst (λ (z : List Step). IsStored files moment left trace run first_epoch z begin start new after) all
+    subst (λ (z : List Step). IsStored files faults moment left trace run first_epoch z begin start new after) all
     (once trace run first_epoch (done ++ repeated n round) (repeated k round ++ rest) begin start (taken trace run first_epoch done h)
-    (subst (λ (z : List Step). IsStored files moment left trace run first_epoch z begin start now mid) (sym all) (so_far trace run first_epoch done rest begin start h stored)))
+    (subst (λ (z : List Step). IsStored files faults moment left trace run first_epoch z begin start now mid) (sym all) (so_far trace run first_epoch done rest begin start h stored)))
 
 -- once the run is finished more steps do nothing
 pub rest_taken : (trace : Recording) (run first_epoch : ℕ) (steps more : List Step) (replay : Replay) → replay.finished ≡ true → HasTaken trace run first_epoch steps replay → HasTaken trace run first_epoch (steps ++ more) replay

@@ -1,6 +1,6 @@
 -- One step of a replay is one step of the run.
-use Rattle.std.proofs.Common.{◌≡◌, refl, sym, ◌∙◌, ap, subst, ℕ, zero, suc, ◌+◌, ◌<◌, ◌≤◌, List, [], ◌∷◌, ◌++◌, length, map, min, arith, Bool, true, false, if◌then◌else◌, Some, None, Option, ◌⊎◌, inl, inr}
-use Rattle.std.specs.Prelude.{slice_get, slice_set, is_none}
+use Rattle.std.proofs.Common.{◌≡◌, refl, sym, ◌∙◌, ap, subst, ℕ, zero, suc, ◌+◌, ◌<◌, ◌≤◌, List, [], ◌∷◌, ◌++◌, length, map, min, arith, Bool, true, false, Some, None, Option, ◌⊎◌, inl, inr}
+use Rattle.std.specs.Prelude.{slice_get, slice_set, unwrap_or}
 use Rattle.std.proofs.lemmas.Option.{slice_get_within}
 use Rattle.std.proofs.lemmas.List.{length-map}
 use Rattle.sample_key.specs.Sent.{Sent}
@@ -13,6 +13,7 @@ use Rattle.trace_model.specs.declared.notices.Step.TheVariants.{Lane, Poll, Adva
 use Rattle.driver_model.specs.Handover.{FarSide}
 use Rattle.driver_model.specs.Sides.{Side}
 use Rattle.database_state.specs.declared.faults.DbFault.{DbFault}
+use Rattle.database_state.specs.declared.faults.DbFault.TheVariants.{Memory}
 use Rattle.lane_side.specs.Fixed.{Fixed}
 use Rattle.lane_side.specs.Plain.{Plain}
 use Rattle.cpu_lane.specs.Seen.{Seen}
@@ -24,25 +25,25 @@ use Rattle.run_laws.proofs.Driven.{DriverLaws}
 use Rattle.run_laws.proofs.Systems.{SystemHolds, polls_table, run_holds, waits_table}
 use Rattle.dcpid_core.specs.Advancing.{Advances, advance_of, commits}
 use Rattle.dcpid_core.specs.Counting.{AdvancesAsTheRun, CountsAgree}
-use Rattle.dcpid_core.specs.Collection.{AreFitting, Collection, FitFrom, MayRing, rang, rang_if, views}
-use Rattle.dcpid_core.specs.Polling.{CellPollsEvenly, Polls, drained, passed}
+use Rattle.dcpid_core.specs.Collection.{AreFitting, Collection, MayRing, rang, rang_if, views}
+use Rattle.dcpid_core.specs.Polling.{CellPollsEvenly, Polls}
 use Rattle.dcpid_core.specs.declared.polled.Polled.{Polled}
 use Rattle.dcpid_core.specs.declared.polled.Polled.TheVariants.{Drained, Passed, Home}
 use Rattle.std.specs.List.{AllByRecursion}
 use Rattle.store_io.specs.Files.{Files}
-use Rattle.replay_drive.specs.Players.{ArePlayers, half_of, processor_of, processors_of, system_of, turned_at}
+use Rattle.replay_drive.specs.Players.{ArePlayers, half_of, processors_of, system_of, turned_at}
 use Rattle.replay_drive.specs.Standing.{StandsAt, ends_run}
-use Rattle.replay_drive.specs.Growing.{KeepsParts, KeepsStore, parts_at_most}
+use Rattle.replay_drive.specs.Growing.{KeepsParts, KeepsStore}
 use Rattle.database_state.specs.Heads.{Head}
-use Rattle.replay_drive.specs.Replaying.{HasTaken, IsStored, LeavesStore}
+use Rattle.replay_drive.specs.Replaying.{FaultRests, HasTaken, IsStored, LeavesStore}
 use Rattle.replay_drive.specs.declared.replays.Replay.{Replay}
-use Rattle.replay_drive.proofs.AdvanceStores.{KeepsAll, advance_stores}
+use Rattle.replay_drive.proofs.AdvanceStores.{KeepsAll, advance_stores, store_as}
 use Rattle.replay_drive.proofs.StoreKept.{store_rests}
 use Rattle.replay_drive.proofs.Among.{as_many, no_processor, player_here}
 use Rattle.replay_drive.proofs.Polling.{TakenBy}
 use Rattle.replay_drive.proofs.PollStands.{poll_stands}
 use Rattle.replay_drive.proofs.TurnStands.{all_from, no_step, one_step, turn_stands}
-use Rattle.replay_drive.proofs.AdvanceStands.{Went, advance_stands, kind_finished, outcome_went, runs_advance}
+use Rattle.replay_drive.proofs.AdvanceStands.{advance_stands, kind_finished, outcome_went, runs_advance}
 use Rattle.replay_drive.proofs.PartsKept.{parts_taken}
 
 -- what a replay is after a step
@@ -183,29 +184,27 @@ polls_take cpu (suc (suc zero)) fixed d e v w f g Passed le h = inr (h.0, inr h.
 polls_take cpu (suc (suc zero)) fixed d e v w f g (Home word) le h = inl h.1
 polls_take cpu (suc (suc (suc cell))) fixed d e v w f g answer le h = absurd (omega (arith, le))
 
-at_most_one : (d : Collection) → parts_at_most d ≤ d.part + 1
-at_most_one d = by d.failure
-  where
-    by : (o : Option DbFault) → (if is_none o then d.part else d.part + 1) ≤ d.part + 1
-    by None = omega arith
-    by (Some f) = omega arith
+-- a fault that is kept stays
+passed_rests : (o p : Option DbFault) → p ≡ Some (unwrap_or o Memory) → FaultRests o p
+passed_rests (Some fault) p is = is
+passed_rests None p is = inr is
 
-some_none : {A B : Type 0} (o : Option A) (x : A) → o ≡ Some x → o ≡ None → B
-some_none o x a b = cc
+-- and none begins
+same_rests : (o p : Option DbFault) → p ≡ o → FaultRests o p
+same_rests (Some fault) p is = is
+same_rests None p is = inl is
 
 taken_leaves : (trace : Recording) (d e : Collection) (cpu cell : ℕ) (batch : Sent) → d.trace ≡ trace → TakenBy cpu cell batch d e → LeavesStore trace d e
 taken_leaves trace d e cpu cell batch is (inl taken) = record {
   part = ap (λ (c : Collection). c.part) taken.1;
   head = ap (λ (c : Collection). c.head) taken.1;
-  fine = λ none. taken.0;
-  more = subst (λ (c : Collection). parts_at_most d ≤ parts_at_most c) (sym taken.1) (omega arith);
+  fault = same_rests d.failure e.failure (ap (λ (c : Collection). c.failure) taken.1);
   parts = λ keeps. parts_taken trace d e cpu cell batch is (inl taken) keeps;
 }
 taken_leaves trace d e cpu cell batch is (inr taken) = record {
   part = ap (λ (c : Collection). c.part) taken;
   head = ap (λ (c : Collection). c.head) taken;
-  fine = λ none. some_none e.failure _ (ap (λ (c : Collection). c.failure) taken) none;
-  more = subst (λ (c : Collection). parts_at_most d ≤ parts_at_most c) (sym taken) (at_most_one d);
+  fault = passed_rests d.failure e.failure (ap (λ (c : Collection). c.failure) taken);
   parts = λ keeps. parts_taken trace d e cpu cell batch is (inr taken) keeps;
 }
 
@@ -215,8 +214,7 @@ poll_leaves trace cpu cell m fixed d e v w f g answer is low polls =
       | inl same ↦ record {
         part = ap (λ (c : Collection). c.part) same;
         head = ap (λ (c : Collection). c.head) same;
-        fine = λ none. ap (λ (c : Collection). c.failure) (sym same) ∙ none;
-        more = subst (λ (c : Collection). parts_at_most d ≤ parts_at_most c) (sym same) (omega arith);
+        fault = same_rests d.failure e.failure (ap (λ (c : Collection). c.failure) same);
         parts = λ keeps. subst (λ (c : Collection). KeepsParts trace c) (sym same) keeps;
       }
       | inr (batch, taken) ↦ taken_leaves trace d e cpu m batch is taken
@@ -305,9 +303,9 @@ ring_by d = (advance_of d).ring
 pub stored_advance : {D : Type 0} (files : D → Option Files) (faults moment : D → ℕ) (left : D → ℕ → Files → Type 0) → DriverLaws → AdvancesAsTheRun
     → (trace : Recording) (run first_epoch : ℕ) (steps rest : List Step) (begin : Head) (start store after : D) (answer : Advanced) (before now : Replay)
     → HasTaken trace run first_epoch steps before → before.finished ≡ false
-    → IsStored files moment left trace run first_epoch (steps ++ Advance ∷ rest) begin start store before
+    → IsStored files faults moment left trace run first_epoch (steps ++ Advance ∷ rest) begin start store before
     → Advances files faults moment left (advance_of before.daemon) before.daemon store answer now.daemon after
-    → IsStored files moment left trace run first_epoch (steps ++ Advance ∷ rest) begin start after now
+    → IsStored files faults moment left trace run first_epoch (steps ++ Advance ∷ rest) begin start after now
 stored_advance {D = D} files faults moment left laws law trace run first_epoch steps rest begin start store after answer before now taken going stored h =
     let sys = run_so_far Free trace first_epoch steps in
     let idle : sys.daemon.finished ≡ false = sym taken.finished ∙ going in
@@ -316,9 +314,9 @@ stored_advance {D = D} files faults moment left laws law trace run first_epoch s
     let holds = run_holds laws Free trace first_epoch steps taken.fit in
     let held : SystemHolds Free trace first_epoch (after_advance Free trace sys) =
     subst (λ (x : System). SystemHolds Free trace first_epoch x) next (run_holds laws Free trace first_epoch (steps ++ Advance ∷ []) taken.fit) in
-    let keeps : KeepsAll files moment left trace (record_of run first_epoch (after_steps Free trace (after_advance Free trace sys) rest)) begin start store before.daemon = record {
+    let keeps : KeepsAll files faults moment left trace (record_of run first_epoch (after_steps Free trace (after_advance Free trace sys) rest)) begin start store before.daemon = record {
       parts = stored.parts;
-      store = subst (λ (s : System). KeepsStore files moment left trace (record_of run first_epoch s) begin start store before.daemon) whole stored.store;
+      store = subst (λ (s : System). KeepsStore files faults moment left trace (record_of run first_epoch s) begin start store before.daemon.part before.daemon.head before.daemon.failure) whole stored.store;
     } in
     let kept = advance_stores files faults moment left law trace run first_epoch before.lanes.items before.sides.items before.daemon now.daemon sys rest begin start store after answer
     taken.stands holds held stored.run_is stored.first_is h keeps in
@@ -326,18 +324,19 @@ stored_advance {D = D} files faults moment left laws law trace run first_epoch s
       run_is = stored.run_is;
       first_is = stored.first_is;
       parts = kept.parts;
-      store = subst (λ (s : System). KeepsStore files moment left trace (record_of run first_epoch s) begin start after now.daemon) (sym whole) kept.store;
+      store = subst (λ (s : System). KeepsStore files faults moment left trace (record_of run first_epoch s) begin start after now.daemon.part now.daemon.head now.daemon.failure) (sym whole) kept.store;
     }
 
 -- the store after a step that makes no call of it
-pub stored_rests : {D : Type 0} (files : D → Option Files) (moment : D → ℕ) (left : D → ℕ → Files → Type 0) → (trace : Recording) (run first_epoch : ℕ) (all : List Step) (begin : Head) (start store : D) (before now : Replay)
-    → IsStored files moment left trace run first_epoch all begin start store before → LeavesStore trace before.daemon now.daemon
-    → IsStored files moment left trace run first_epoch all begin start store now
-stored_rests files moment left trace run first_epoch all begin start store before now stored leaves = record {
+pub stored_rests : {D : Type 0} (files : D → Option Files) (faults moment : D → ℕ) (left : D → ℕ → Files → Type 0) → (trace : Recording) (run first_epoch : ℕ) (all : List Step) (begin : Head) (start store : D) (before now : Replay)
+    → IsStored files faults moment left trace run first_epoch all begin start store before → LeavesStore trace before.daemon now.daemon
+    → IsStored files faults moment left trace run first_epoch all begin start store now
+stored_rests files faults moment left trace run first_epoch all begin start store before now stored leaves = record {
   run_is = stored.run_is;
   first_is = stored.first_is;
   parts = leaves.parts stored.parts;
-  store = store_rests files moment left trace _ begin start store before.daemon now.daemon leaves.part leaves.head leaves.fine leaves.more stored.store;
+  store = store_as files faults moment left trace _ begin start store before.daemon.part now.daemon.part before.daemon.head now.daemon.head now.daemon.failure now.daemon.failure (sym leaves.part) (sym leaves.head) refl
+      (store_rests files faults moment left trace _ begin start store before.daemon.part before.daemon.head before.daemon.failure now.daemon.failure leaves.fault stored.store);
 }
 
 -- sides with the same halves, and sides that were rung, are as many

@@ -1,21 +1,20 @@
 -- After a turn the replay stands where the run stands after that turn.
-use Rattle.std.proofs.Common.{◌≡◌, refl, sym, ◌∙◌, ap, subst, ℕ, ◌+◌, List, [], ◌∷◌, ◌++◌, map, Bool, true, false, if◌then◌else◌}
+use Rattle.std.proofs.Common.{◌≡◌, refl, sym, ◌∙◌, ap, subst, ℕ, ◌+◌, List, [], ◌∷◌, ◌++◌, map, true, false}
 use Rattle.std.specs.Prelude.{slice_get}
 use Rattle.std.proofs.lemmas.Bool.{cond-false, cond-true}
 use Rattle.sample_key.specs.declared.losses.Pace.TheVariants.{Free}
 use Rattle.trace_model.specs.Recording.{Recording}
-use Rattle.trace_model.specs.Streams.{records_in}
 use Rattle.trace_model.specs.declared.notices.Step.{Step}
 use Rattle.driver_model.specs.Handover.{FarSide}
 use Rattle.lane_side.specs.Plain.{Plain}
 use Rattle.cpu_lane.specs.Seen.{Seen}
-use Rattle.run_model.specs.Daemon.{Daemon, flush_before, rungs_of}
-use Rattle.run_model.specs.Running.{Processor, System, acts, after_step, after_steps, after_turn, start}
+use Rattle.run_model.specs.Daemon.{Daemon, flush_before}
+use Rattle.run_model.specs.Running.{Processor, System, acts, after_steps, after_turn, start}
 use Rattle.run_laws.specs.Laws.{run_so_far}
 use Rattle.run_rounds.proofs.Own.{steps_append}
 use Rattle.dcpid_core.specs.Counting.{Agree, fars_in}
 use Rattle.dcpid_core.specs.Collection.{Collection, FitFrom, IsFitting}
-use Rattle.replay_drive.specs.Players.{ArePlayers, DaemonsHalf, half_of, processors_of, system_of, turned_at}
+use Rattle.replay_drive.specs.Players.{ArePlayers, DaemonsHalf, half_of, system_of, turned_at}
 use Rattle.replay_drive.specs.Standing.{StandsAt, without_drains}
 
 -- one step more of a run that is not finished

@@ -1,5 +1,5 @@
 -- Which batch waits in a cell, by its word.
-use Rattle.std.proofs.Common.{◌≡◌, refl, sym, ◌∙◌, ap, subst, ℕ, ◌+◌, ◌%◌, List, [], ◌∷◌, ◌++◌, length, arith, Some, None, Option, ◌⊎◌, inl, inr, eq-eqb}
+use Rattle.std.proofs.Common.{◌≡◌, sym, ◌∙◌, ap, subst, ◌+◌, ◌%◌, List, [], ◌∷◌, ◌++◌, length, arith, Some, None, Option, inl, inr, eq-eqb}
 use Rattle.std.specs.Prelude.{slice_get, IfSome}
 use Rattle.std.proofs.lemmas.Option.{slice_get_past}
 use Rattle.sample_key.specs.Sent.{Sent}

@@ -3,3 +3,5 @@ pub mod Players
 pub mod Standing
 pub mod Growing
 pub mod Replaying
+pub mod Outcomes
+pub mod Ending

@@ -1,15 +1,17 @@
 -- A replay that has taken some steps.
-use Rattle.std.specs.Prelude.{◌≡◌, ℕ, zero, suc, ◌+◌, ◌≤◌, ◌++◌, List, [], ◌∷◌, Option, None}
+use Rattle.std.specs.Prelude.{◌≡◌, ◌⊎◌, ℕ, zero, suc, ◌+◌, ◌++◌, List, [], ◌∷◌, Option, Some, None}
 use Rattle.sample_key.specs.declared.losses.Pace.TheVariants.{Free}
 use Rattle.trace_model.specs.Recording.{Recording}
 use Rattle.trace_model.specs.declared.notices.Step.{Step}
 use Rattle.store_io.specs.Files.{Files}
 use Rattle.database_state.specs.Heads.{Head}
+use Rattle.database_state.specs.declared.faults.DbFault.{DbFault}
+use Rattle.database_state.specs.declared.faults.DbFault.TheVariants.{Memory}
 use Rattle.run_model.specs.Running.{record_of}
 use Rattle.run_laws.specs.Laws.{IsFit, run_so_far}
 use Rattle.dcpid_core.specs.Collection.{Collection}
 use Rattle.replay_drive.specs.Standing.{StandsAt}
-use Rattle.replay_drive.specs.Growing.{KeepsParts, KeepsStore, parts_at_most}
+use Rattle.replay_drive.specs.Growing.{KeepsParts, KeepsStore}
 use Rattle.replay_drive.specs.declared.replays.Replay.{Replay}
 
 -- The replay of a trace stands where the run stands after these steps, and knows whether that run is finished.
@@ -32,33 +34,37 @@ IsUnderWay replay = (trace : Recording) × (run : ℕ) × (first_epoch : ℕ) ×
     × HasTaken trace run first_epoch steps replay
 
 -- The store is kept since the start of a run, when its database had this head: the run's whole list of steps is this one.
-pub record IsStored {D : Type 0} (files : D → Option Files) (moment : D → ℕ)
+pub record IsStored {D : Type 0} (files : D → Option Files) (faults moment : D → ℕ)
     (left_since : D → ℕ → Files → Type 0) (trace : Recording) (run first_epoch : ℕ)
     (steps : List Step) (begin : Head) (start now : D) (replay : Replay) : Type 0 where
   pub run_is : run ≡ begin.runs + 1
   pub first_is : first_epoch ≡ begin.epoch
   pub parts : KeepsParts trace replay.daemon
-  pub store : KeepsStore files moment left_since trace
+  pub store : KeepsStore files faults moment left_since trace
       (record_of run first_epoch (run_so_far Free trace first_epoch steps))
-      begin start now replay.daemon
+      begin start now replay.daemon.part replay.daemon.head replay.daemon.failure
 
 -- a step keeps the store
-abbrev pub StoresStep : {D : Type 0} → (D → Option Files) → (D → ℕ) → (D → ℕ → Files → Type 0)
-    → Replay → Replay → D → D → Step → Type 0
-StoresStep {D} files moment left_since before after old new step = (trace : Recording)
+abbrev pub StoresStep : {D : Type 0} → (D → Option Files) → (D → ℕ) → (D → ℕ)
+    → (D → ℕ → Files → Type 0) → Replay → Replay → D → D → Step → Type 0
+StoresStep {D} files faults moment left_since before after old new step = (trace : Recording)
     (run first_epoch : ℕ) (steps rest : List Step) (begin : Head) (start : D)
     → HasTaken trace run first_epoch steps before
-    → IsStored files moment left_since trace run first_epoch (steps ++ step ∷ rest)
+    → IsStored files faults moment left_since trace run first_epoch (steps ++ step ∷ rest)
     begin start old before
-    → IsStored files moment left_since trace run first_epoch (steps ++ step ∷ rest)
+    → IsStored files faults moment left_since trace run first_epoch (steps ++ step ∷ rest)
     begin start new after
+
+-- a fault that is kept stays; a call that is given no store begins none but want of memory
+abbrev pub FaultRests : Option DbFault → Option DbFault → Type 0
+FaultRests (Some fault) after = after ≡ Some fault
+FaultRests None after = (after ≡ None) ⊎ (after ≡ Some Memory)
 
 -- What a call of the daemon that is given no store leaves: the same parts and the same head.
 pub record LeavesStore (trace : Recording) (before after : Collection) : Type 0 where
   pub part : after.part ≡ before.part
   pub head : after.head ≡ before.head
-  pub fine : after.failure ≡ None → before.failure ≡ None
-  pub more : parts_at_most before ≤ parts_at_most after
+  pub fault : FaultRests before.failure after.failure
   pub parts : KeepsParts trace before → KeepsParts trace after
 
 -- after these steps it has taken them too
@@ -68,14 +74,14 @@ TakesSteps before after steps = (trace : Recording) (run first_epoch : ℕ) (don
     → HasTaken trace run first_epoch (done ++ steps) after
 
 -- and they keep the store
-abbrev pub StoresSteps : {D : Type 0} → (D → Option Files) → (D → ℕ) → (D → ℕ → Files → Type 0)
-    → Replay → Replay → D → D → List Step → Type 0
-StoresSteps {D} files moment left_since before after old new steps = (trace : Recording)
+abbrev pub StoresSteps : {D : Type 0} → (D → Option Files) → (D → ℕ) → (D → ℕ)
+    → (D → ℕ → Files → Type 0) → Replay → Replay → D → D → List Step → Type 0
+StoresSteps {D} files faults moment left_since before after old new steps = (trace : Recording)
     (run first_epoch : ℕ) (done rest : List Step) (begin : Head) (start : D)
     → HasTaken trace run first_epoch done before
-    → IsStored files moment left_since trace run first_epoch (done ++ (steps ++ rest))
+    → IsStored files faults moment left_since trace run first_epoch (done ++ (steps ++ rest))
     begin start old before
-    → IsStored files moment left_since trace run first_epoch (done ++ (steps ++ rest))
+    → IsStored files faults moment left_since trace run first_epoch (done ++ (steps ++ rest))
     begin start new after
 
 -- so many times the same steps

@@ -2,11 +2,15 @@
 //! then in rounds until the close is complete.
 #![tactic(auto)]
 
+mod endings;
 mod players;
+mod replaying;
 mod replays;
 mod rounds;
 mod starting;
 
+pub use dcpid_core::Outcome;
 pub use players::{turn_at, turn_of};
+pub use replaying::{MOST_ROUNDS, replay};
 pub use replays::Replay;
 pub use starting::{Players, new_player, new_players};

@@ -33,7 +33,7 @@ impl Replay<'_> {
     pub fn step<D: Store>(&mut self, alloc: Global, step: Step, store: &mut D)
         requires { IsUnderWay self.old }
         ensures taken { TakesStep self.old self.new step }
-        ensures stores { StoresStep D.files D.moment D.left_since self.old self.new
+        ensures stores { StoresStep D.files D.faults D.moment D.left_since self.old self.new
             store.old store.new step }
         ensures origin { D.origin store.new ≡ D.origin store.old }
     {
@@ -81,7 +81,7 @@ impl Replay<'_> {
         requires taken { IsUnderWay self.old }
         requires going { self.old.finished ≡ false }
         ensures taken { TakesStep self.old self.new steps.Advance }
-        ensures stores { StoresStep D.files D.moment D.left_since self.old self.new
+        ensures stores { StoresStep D.files D.faults D.moment D.left_since self.old self.new
             store.old store.new steps.Advance }
         ensures origin { D.origin store.new ≡ D.origin store.old }
     {
@@ -104,7 +104,7 @@ fn is_finished(answer: &Advanced) -> bool
 }
 
 // The laws of the definitions that a step cites.
-fn laws()
+pub(crate) fn laws()
     ensures start { StartKeeps }
     ensures turn { TurnKeeps }
     ensures polls { PollsKeep }

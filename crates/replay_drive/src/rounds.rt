@@ -12,7 +12,7 @@ impl Replay<'_> {
     pub fn steps<D: Store>(&mut self, alloc: Global, steps: &[Step], store: &mut D)
         requires { IsUnderWay self.old }
         ensures taken { TakesSteps self.old self.new steps.now }
-        ensures stores { StoresSteps D.files D.moment D.left_since self.old self.new
+        ensures stores { StoresSteps D.files D.faults D.moment D.left_since self.old self.new
             store.old store.new steps.now }
         ensures origin { D.origin store.new ≡ D.origin store.old }
     {
@@ -25,7 +25,7 @@ impl Replay<'_> {
     pub fn rounds<D: Store>(&mut self, alloc: Global, round: &[Step], count: u64, store: &mut D)
         requires { IsUnderWay self.old }
         ensures taken { TakesSteps self.old self.new (repeated count round.now) }
-        ensures stores { StoresSteps D.files D.moment D.left_since self.old self.new
+        ensures stores { StoresSteps D.files D.faults D.moment D.left_since self.old self.new
             store.old store.new (repeated count round.now) }
         ensures origin { D.origin store.new ≡ D.origin store.old }
     {

@@ -1,10 +1,9 @@
 -- A turn of one lane among all is that turn of the run.
-use Rattle.std.proofs.Common.{◌≡◌, sym, ◌∙◌, ap, subst, ℕ, ◌<◌, length, Option, Some, None}
-use Rattle.std.specs.Prelude.{slice_get, slice_set, List}
+use Rattle.std.proofs.Common.{sym, ap}
 use Rattle.std.proofs.lemmas.Option.{slice_get-get_or}
-use Rattle.run_model.specs.Running.{Processor, System, setup_of, turned, after_turn}
-use Rattle.replay_drive.specs.Players.{IsPlayer, processor_of, processors_of, system_of, turned_at}
-use Rattle.replay_drive.proofs.Among.{side_too, player_here, players_with, processors_set, processor_there, no_processor, halves_set}
+use Rattle.run_model.specs.Running.{System, after_turn}
+use Rattle.replay_drive.specs.Players.{system_of}
+use Rattle.replay_drive.proofs.Among.{side_too, player_here, players_with, no_processor, halves_set}
 use Rattle.replay_drive.proofs.Playing.{turned_system}
 use Rattle.replay_drive.proofs.players.turn_at.Goals as goal
 

@@ -1,9 +1,5 @@
 -- A turn over a plain side is the turn of the run.
-use Rattle.std.proofs.Common.{◌≡◌, refl, ap}
-use Rattle.driver_model.specs.Driver.{Driver}
-use Rattle.driver_model.specs.Sides.{Side}
-use Rattle.run_model.specs.Running.{Processor, counts_of}
-use Rattle.replay_drive.specs.Players.{processor_of}
+use Rattle.run_model.specs.Running.{counts_of}
 use Rattle.replay_drive.proofs.Playing.{same_processor}
 use Rattle.replay_drive.proofs.players.turn_of.Goals as goal
 

@@ -1,5 +1,5 @@
 -- The next stream is there, and one player more starts.
-use Rattle.std.proofs.Common.{◌≡◌, sym, ◌∙◌, ap, ℕ, ◌+◌, List, [], ◌∷◌, ◌++◌, length, arith, length-append}
+use Rattle.std.proofs.Common.{◌∙◌, ap, ◌+◌, [], ◌∷◌, length, arith, length-append}
 use Rattle.sample_key.specs.declared.losses.Pace.TheVariants.{Free}
 use Rattle.trace_model.specs.Traces.{recording_of}
 use Rattle.trace_model.specs.Streams.{streams_in}

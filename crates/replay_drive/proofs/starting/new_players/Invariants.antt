@@ -1,5 +1,5 @@
 -- The players so far, and the streams of those to come.
-use Rattle.std.proofs.Common.{◌≡◌, length, ℕ}
+use Rattle.std.proofs.Common.{◌≡◌, length}
 use Rattle.sample_key.specs.declared.losses.Pace.TheVariants.{Free}
 use Rattle.trace_model.specs.Traces.{recording_of}
 use Rattle.trace_model.specs.Streams.{streams_in}

@@ -1,7 +1,6 @@
 -- An advance is that step of the run, and keeps the store.
-use Rattle.std.proofs.Common.{◌≡◌, sym, ◌∙◌, ap, subst, List, length, arith}
+use Rattle.std.proofs.Common.{sym, ◌∙◌, ap, subst, List, length, arith}
 use Rattle.std.proofs.lemmas.List.{with_items_is}
-use Rattle.sample_key.specs.declared.losses.Pace.TheVariants.{Free}
 use Rattle.lane_side.specs.Plain.{Plain}
 use Rattle.dcpid_core.specs.Collection.{AreFitting}
 use Rattle.replay_drive.proofs.StepsTaken.{fitting, rang_by, rang_length, ring_by, stored_advance, taken_advance, views_are}

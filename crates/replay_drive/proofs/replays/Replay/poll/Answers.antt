@@ -1,8 +1,6 @@
 -- A poll is that step of the run.
-use Rattle.std.proofs.Common.{◌≡◌, sym, ◌∙◌, ap, subst, ℕ, ◌+◌, ◌<◌, ◌≤◌, length, arith, refl, false, Some}
-use Rattle.std.specs.Prelude.{slice_get}
+use Rattle.std.proofs.Common.{subst, ℕ, ◌<◌, length, arith, refl}
 use Rattle.std.proofs.lemmas.Option.{slice_get_read}
-use Rattle.lane_side.specs.Fixed.{Fixed}
 use Rattle.dcpid_core.specs.Collection.{IsFitting}
 use Rattle.replay_drive.proofs.PollStands.{fits_at}
 use Rattle.replay_drive.proofs.StepsTaken.{as_many_sides, evenly, poll_leaves, side_even, taken_past, taken_poll}

@@ -1,5 +1,4 @@
 -- Once the run is finished nothing happens; a poll makes no call of the store.
-use Rattle.std.proofs.Common.{◌≡◌}
 use Rattle.replay_drive.proofs.StepsTaken.{stored_rests, taken_none}
 use Rattle.replay_drive.proofs.replays.Replay.step.Goals as goal
 
@@ -10,4 +9,7 @@ returns-then-self-clause-taken g c = λ trace run first_epoch steps taken.
 
 pub returns-in-Poll-clause-stores : goal.returns-in-Poll-clause-stores
 returns-in-Poll-clause-stores g c = λ trace run first_epoch steps rest begin start taken stored.
-    stored_rests g.D.Store.files g.D.Store.moment g.D.Store.left_since trace run first_epoch _ begin start c.args.store.now c.args.self.now c.poll.new.self stored (c.poll.ensures.leaves trace taken.stands.trace_is)
+    stored_rests g.D.Store.files g.D.Store.faults g.D.Store.moment g.D.Store.left_since trace run first_epoch _ begin start c.args.store.now c.args.self.now c.poll.new.self stored (c.poll.ensures.leaves trace taken.stands.trace_is)
+
+pub returns-in-Advance-clause-stores : goal.returns-in-Advance-clause-stores
+returns-in-Advance-clause-stores g c = rw c.in-Advance.is c.advance.ensures.stores

@@ -1,5 +1,5 @@
 -- One step more was taken; at the end all were.
-use Rattle.std.proofs.Common.{◌≡◌, sym, ◌∙◌, ap, subst, ℕ, ◌+◌, ◌<◌, List, ◌++◌, length, take, arith}
+use Rattle.std.proofs.Common.{◌∙◌, subst, List, ◌++◌, arith}
 use Rattle.std.proofs.lemmas.Option.{slice_get-get_or}
 use Rattle.trace_model.specs.declared.notices.Step.{Step}
 use Rattle.replay_drive.specs.Replaying.{HasTaken}
@@ -13,7 +13,7 @@ loop-step-preserved g c =
     record {
       under = under_way c.args.self.now c.step.new.self _ c.requires taken;
       taken = taken;
-      stores = step_stored g.D.Store.files g.D.Store.moment g.D.Store.left_since c.args.self.now c.loop-step.self c.step.new.self c.args.store.now c.loop-step.store c.step.new.store c.args.steps.now c.loop-step.step-index _ at
+      stores = step_stored g.D.Store.files g.D.Store.faults g.D.Store.moment g.D.Store.left_since c.args.self.now c.loop-step.self c.step.new.self c.args.store.now c.loop-step.store c.step.new.store c.args.steps.now c.loop-step.step-index _ at
           c.loop-step.invariant.taken c.loop-step.invariant.stores c.step.ensures.stores;
       origin = c.step.ensures.origin ∙ c.loop-step.invariant.origin;
     }

@@ -1,5 +1,5 @@
 -- A turn is that step of the run.
-use Rattle.std.proofs.Common.{◌≡◌, ap, length, arith, false}
+use Rattle.std.proofs.Common.{ap, length, arith}
 use Rattle.std.proofs.lemmas.List.{with_items_is}
 use Rattle.sample_key.specs.declared.losses.Pace.TheVariants.{Free}
 use Rattle.replay_drive.proofs.StepsTaken.{halves_length, taken_turn}
