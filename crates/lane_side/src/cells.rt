@@ -47,8 +47,21 @@ impl<B: Drop> Cell<B> {
         self.hands + self.given
     }
 
-    // A look, which read this word.
+    // A look, which read this word. A value that is out is not moved.
     pub(crate) fn look(&mut self, word: u64) -> Look<B>
+        ensures answer { result ≡ look_of word self.old.holder }
+        ensures cell { self.new ≡ record self.old { holder = after_look self.old.holder } }
+    {
+        match &self.holder {
+            Holder::AtHome(_) => self.take_back(word),
+            Holder::Posted(_) => Look::Out(word),
+            Holder::WithDaemon => Look::Out(word),
+            Holder::WithDriver => Look::Out(word),
+        }
+    }
+
+    // A look at a value that is at home.
+    fn take_back(&mut self, word: u64) -> Look<B>
         ensures answer { result ≡ look_of word self.old.holder }
         ensures cell { self.new ≡ record self.old { holder = after_look self.old.holder } }
     {
@@ -66,8 +79,21 @@ impl<B: Drop> Cell<B> {
         }
     }
 
-    // A poll, which read this word.
+    // A poll, which read this word. A value that is at home is not moved.
     pub(crate) fn poll(&mut self, word: u64) -> PollOf<Parcel<B>>
+        ensures answer { result ≡ poll_of word self.old.holder }
+        ensures cell { self.new ≡ record self.old { holder = after_poll self.old.holder } }
+    {
+        match &self.holder {
+            Holder::Posted(_) => self.take(word),
+            Holder::AtHome(_) => PollOf::Home(word),
+            Holder::WithDriver => PollOf::Home(word),
+            Holder::WithDaemon => PollOf::Home(word),
+        }
+    }
+
+    // A poll of a value that was handed.
+    fn take(&mut self, word: u64) -> PollOf<Parcel<B>>
         ensures answer { result ≡ poll_of word self.old.holder }
         ensures cell { self.new ≡ record self.old { holder = after_poll self.old.holder } }
     {
