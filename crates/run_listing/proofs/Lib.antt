@@ -1,0 +1,4 @@
+pub mod Bounds
+pub mod Recording
+pub mod Progress
+pub mod Stops

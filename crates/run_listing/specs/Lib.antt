@@ -1,0 +1,5 @@
+pub mod Orders
+pub mod Runs
+pub mod Texts
+pub mod Steps
+pub mod Small
