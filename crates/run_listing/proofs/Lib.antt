@@ -2,3 +2,4 @@ pub mod Bounds
 pub mod Recording
 pub mod Progress
 pub mod Stops
+pub mod InOrder

@@ -37,26 +37,26 @@ pub record Lists (segments : List Segment) (text : List ℕ) (run : JoinedRun) :
 
 -- ---- one more segment
 
-last_with : (segments : List Segment) (s : Segment) → last_run (segments ++ s ∷ []) ≡ s.run
+pub last_with : (segments : List Segment) (s : Segment) → last_run (segments ++ s ∷ []) ≡ s.run
 last_with segments s = fold-append (λ (before : ℕ) (t : Segment). t.run) 0 segments (s ∷ [])
 
-parts_with : (segments : List Segment) (s : Segment) (k : ℕ) → parts_of k (segments ++ s ∷ []) ≡ parts_of k segments ++ cond (s.run == k) (s ∷ []) []
+pub parts_with : (segments : List Segment) (s : Segment) (k : ℕ) → parts_of k (segments ++ s ∷ []) ≡ parts_of k segments ++ cond (s.run == k) (s ∷ []) []
 parts_with segments s k = filter-append (λ (t : Segment). t.run == k) segments (s ∷ [])
 
-other_run : (a k : ℕ) → a ≢ k → eqb a k ≡ false
+pub other_run : (a k : ℕ) → a ≢ k → eqb a k ≡ false
 other_run a k apart = tell (eqb a k) refl
   where
     tell : (t : Bool) → eqb a k ≡ t → t ≡ false
     tell true is = absurd (apart (eqb-true a k is))
     tell false is = refl
 
-parts_same : (segments : List Segment) (s : Segment) (k : ℕ) → s.run ≢ k → parts_of k (segments ++ s ∷ []) ≡ parts_of k segments
+pub parts_same : (segments : List Segment) (s : Segment) (k : ℕ) → s.run ≢ k → parts_of k (segments ++ s ∷ []) ≡ parts_of k segments
 parts_same segments s k apart = parts_with segments s k ∙ rw (other_run s.run k apart) (append-nil (parts_of k segments))
 
 own_run : (a : ℕ) → eqb a a ≡ true
 own_run a = eq-eqb a a refl
 
-parts_more : (segments : List Segment) (s : Segment) → parts_of s.run (segments ++ s ∷ []) ≡ parts_of s.run segments ++ s ∷ []
+pub parts_more : (segments : List Segment) (s : Segment) → parts_of s.run (segments ++ s ∷ []) ≡ parts_of s.run segments ++ s ∷ []
 parts_more segments s = parts_with segments s s.run ∙ rw (own_run s.run) refl
 
 texts_same : (segments : List Segment) (s : Segment) (run : ℕ) → run < s.run → texts_to run (segments ++ s ∷ []) ≡ texts_to run segments
@@ -68,7 +68,7 @@ before_same : (segments : List Segment) (s : Segment) (run : ℕ) → run ≡ s.
 before_same segments s zero is = refl
 before_same segments s (suc run) is = texts_same segments s run (omega (arith, is))
 
-above_with : (segments : List Segment) (s : Segment) (k : ℕ) → last_run segments ≤ s.run → ((n : ℕ) → last_run segments < n → parts_of n segments ≡ []) → s.run < k → parts_of k (segments ++ s ∷ []) ≡ []
+pub above_with : (segments : List Segment) (s : Segment) (k : ℕ) → last_run segments ≤ s.run → ((n : ℕ) → last_run segments < n → parts_of n segments ≡ []) → s.run < k → parts_of k (segments ++ s ∷ []) ≡ []
 above_with segments s k up above over = parts_same segments s k (λ same. omega (arith, over, same)) ∙ above k (omega (arith, up, over))
 
 -- a run with one more part
@@ -99,6 +99,11 @@ lists_whole segments text run lists =
 pub lists_none : Lists [] [] no_parts
 lists_none = record { run_is = refl; text_is = refl; above = λ k over. refl }
 
+-- a run that was not ended has a part
+pub some_parts : (parts : List Segment) → not (is_whole parts) ≡ true → length parts ≡ 0 → ⊥
+some_parts [] end none = cc
+some_parts (p ∷ ps) end none = omega (arith, none)
+
 pub lists_more : (segments : List Segment) (text : List ℕ) (run : JoinedRun) (s : Segment) → Lists segments text run → goes_on (reached_by run) s ≡ true → Lists (segments ++ s ∷ []) text (appended run s)
 lists_more segments text run s lists on =
     let r = last_run segments in
@@ -117,10 +122,6 @@ lists_more segments text run s lists on =
           ∙ ap (λ (k : ℕ). texts_before k (segments ++ s ∷ [])) (sym (last_with segments s));
       above = λ k over. above_with segments s k (omega (arith, same)) lists.above (omega (arith, over, last_with segments s));
     }
-  where
-    some_parts : (parts : List Segment) → not (is_whole parts) ≡ true → length parts ≡ 0 → ⊥
-    some_parts [] end none = cc
-    some_parts (p ∷ ps) end none = omega (arith, none)
 
 pub lists_next : (segments : List Segment) (text : List ℕ) (run : JoinedRun) (s : Segment) → Lists segments text run → begins_next (reached_by run) s ≡ true → Lists (segments ++ s ∷ []) (text ++ shown run) (started s)
 lists_next segments text run s lists next =
@@ -165,7 +166,7 @@ reached_with run s true on next =
     rw (on, same) refl
 reached_with run s false on next = rw on refl
 
-or_second : (a b : Bool) → a ≡ false → (a || b) ≡ true → b ≡ true
+pub or_second : (a b : Bool) → a ≡ false → (a || b) ≡ true → b ≡ true
 or_second true b is holds = cc
 or_second false b is holds = holds
 

@@ -1,5 +1,5 @@
 -- The runs of a database: the record of a run joined of its segments.
-use Rattle.std.specs.Prelude.{ℕ, ◌==◌, Bool, true, if◌then◌else◌, List, [], ◌∷◌, filter, None, Some}
+use Rattle.std.specs.Prelude.{ℕ, ◌==◌, Bool, true, if◌then◌else◌, List, [], ◌∷◌, filter, None, Some, ◌≡◌, ◌+◌, ◌<◌, ◌≤◌, false, length, slice_index_or}
 use Rattle.std.specs.declared.option.Option.{Option}
 use Rattle.std.specs.List.{fold, flat_map}
 use Rattle.sample_key.specs.declared.losses.Loss.{Loss}
@@ -39,3 +39,15 @@ joined run parts = record {
   drains = flat_map (λ s. s.drains) parts;
   losses = losses_of parts;
 }
+
+-- The parts of a run stand in their order: part k is the k-th, from 0, and none but the last of them is the run's last.
+pub record AreInOrder (parts : List Segment) : Type 0 where
+  pub numbered : (k : ℕ) (d : Segment) → k < length parts → (slice_index_or parts k d).part ≡ k
+  pub one_end : (k : ℕ) (d : Segment) → k + 1 < length parts → (slice_index_or parts k d).last ≡ false
+
+-- Segments are those of runs 1 up to the last one, each of which has parts in their order.
+pub record AreRuns (segments : List Segment) : Type 0 where
+  pub each : (run : ℕ) → 1 ≤ run → run ≤ last_run segments → 0 < length (parts_of run segments)
+  pub parts : (run : ℕ) → AreInOrder (parts_of run segments)
+  pub none : parts_of 0 segments ≡ []
+  pub above : (run : ℕ) → last_run segments < run → parts_of run segments ≡ []

@@ -6,8 +6,10 @@
 #![tactic(auto)]
 
 mod joins;
+mod laws;
 mod listing;
 mod small;
 mod texts;
 
+pub use laws::runs_stand_in_order;
 pub use listing::runs_text;
