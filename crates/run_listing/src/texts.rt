@@ -68,7 +68,8 @@ fn put_row(out: &mut Vec<u8>, row: &TallyRow) -> Result<(), AllocError>
 
 fn put_row_start(out: &mut Vec<u8>, row: &TallyRow) -> Result<(), AllocError>
     requires { taken row.now < 2 ^ 128 }
-    ensures { OnOk result (out.new.items ≡ out.old.items ++ join_with_byte 32 (row_start row.now)) }
+    ensures { OnOk result (out.new.items ≡ out.old.items
+        ++ join_with_byte 32 (row_start row.now)) }
 {
     out.extend_from_slice(b"c ")?;
     put_dec(out, u128::from(row.cpu))?;

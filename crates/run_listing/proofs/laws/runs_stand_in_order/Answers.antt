@@ -1,3 +1,4 @@
+-- Both parts of the law come from one walk along the segments.
 use Rattle.run_listing.proofs.InOrder.{segments_in_order}
 use Rattle.run_listing.proofs.laws.runs_stand_in_order.Goals as goal
 

@@ -1,3 +1,4 @@
+-- The drains before this one have small counts.
 use Rattle.std.proofs.Common.{ℕ, ◌<◌, slice_index_or}
 use Rattle.database_model.specs.Runs.{Drained}
 use Rattle.run_listing.specs.Small.{AreSmall}

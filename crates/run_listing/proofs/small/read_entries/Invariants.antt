@@ -1,3 +1,4 @@
+-- The entries before this one are small.
 use Rattle.std.proofs.Common.{ℕ, ◌<◌, ◌≤◌, slice_index_or}
 use Rattle.sample_key.specs.Counted.{Counted}
 use Rattle.run_listing.proofs.small.read_entries.Given as goal

@@ -1,3 +1,4 @@
+-- The rows before this one are written.
 use Rattle.std.proofs.Common.{◌≡◌, ◌++◌, take}
 use Rattle.std.specs.List.{flat_map}
 use Rattle.run_listing.specs.Texts.{row_line}
