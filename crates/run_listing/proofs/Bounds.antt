@@ -15,8 +15,8 @@ use Rattle.database_model.specs.declared.tallies.TallyRow.{TallyRow}
 use Rattle.database_model.specs.Ranges.{IsDrained, IsRecorded, LossesRiseFrom, AreLosses}
 use Rattle.database_model.specs.Runs.{Drained, Recorded}
 use Rattle.database_model.specs.Tally.{agrees, samples_of, drained_of, lost_of, row_of, has_samples, processor_rows, rows_of, tally_of}
-use Rattle.run_listing.specs.Small.{AreSmall, AllSmall}
-use Rattle.run_listing.specs.Texts.{taken}
+use Rattle.run_listing.specs.Tallies.{AreSmall, AllSmall}
+use Rattle.run_listing.specs.Tallies.{taken}
 
 -- a count or nothing
 at_most : (t : Bool) (n most : ℕ) → n ≤ most → cond t n 0 ≤ most

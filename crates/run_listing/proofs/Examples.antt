@@ -1,5 +1,5 @@
 -- The text of runs and the first bad segment at worked examples, by computation alone.
-use Rattle.std.proofs.Common.{◌≡◌, ℕ, Bool, true, false, List, [], ◌∷◌, ◌++◌, None, Some, Option, refl}
+use Rattle.std.proofs.Common.{◌≡◌, ℕ, Bool, true, false, List, [], ◌∷◌, ◌++◌, None, Some, refl}
 use Rattle.std.specs.Prelude.{codes}
 use Rattle.std.specs.Fmt.{digits}
 use Rattle.store_io.specs.declared.file_refs.FileRef.TheVariants as named
@@ -32,7 +32,7 @@ both_out = record {
   last = true;
   first_epoch = 0;
   drains = batch 0 (one 0x400 ∷ []) (false ∷ []) ∷ batch 1 (one 0x401 ∷ []) (false ∷ [])
-    ∷ batch 2 (one 0x404 ∷ one 0x405 ∷ one 0x402 ∷ one 0x403 ∷ []) (false ∷ false ∷ false ∷ false ∷ []) ∷ [];
+      ∷ batch 2 (one 0x404 ∷ one 0x405 ∷ one 0x402 ∷ one 0x403 ∷ []) (false ∷ false ∷ false ∷ false ∷ []) ∷ [];
   losses = (record { index = 6; event = Cycles; word0 = 1; word1 = 1 } ∷ []) ∷ [];
 }
 
@@ -49,7 +49,7 @@ unfolding part_of batch one rows_of digits
 two_parts = refl
 
 cut_then_whole : listing_of (Some (part_of 1 0 false) ∷ Some (part_of 2 0 true) ∷ [])
-  ≡ codes "run 1 parts 1 cut" ++ 10 ∷ (codes "c 0 cycles taken 1 known 1 unknown 0 lost 0" ++ 10 ∷ (codes "run 2 parts 1 whole" ++ 10 ∷ (codes "c 0 cycles taken 1 known 1 unknown 0 lost 0" ++ 10 ∷ [])))
+    ≡ codes "run 1 parts 1 cut" ++ 10 ∷ (codes "c 0 cycles taken 1 known 1 unknown 0 lost 0" ++ 10 ∷ (codes "run 2 parts 1 whole" ++ 10 ∷ (codes "c 0 cycles taken 1 known 1 unknown 0 lost 0" ++ 10 ∷ [])))
 unfolding part_of batch one rows_of digits
 cut_then_whole = refl
 

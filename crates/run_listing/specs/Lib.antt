@@ -1,5 +1,5 @@
 pub mod Orders
 pub mod Runs
+pub mod Tallies
 pub mod Texts
 pub mod Steps
-pub mod Small

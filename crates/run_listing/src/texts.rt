@@ -1,13 +1,11 @@
 //! The text of a run: its line, and the lines of its tally.
-ghost use Rattle.std.specs.Prelude.{◌≡◌, ◌<◌, ◌^◌, ◌++◌, All, OnOk};
-ghost use Rattle.std.specs.List.{flat_map, join_with_byte};
+ghost use Rattle.std.specs.Prelude.{◌≡◌, ◌++◌, OnOk};
 ghost use Rattle.database_model.specs.Ranges.{IsRecorded};
 ghost use Rattle.run_listing.specs.Steps.{shown};
-ghost use Rattle.run_listing.specs.Texts.{ending, row_end, row_line, row_start, run_line, taken};
+ghost use Rattle.run_listing.specs.Texts.{ending, run_line};
 
 use crate::joins::JoinedRun;
-use crate::small::read_counts;
-use run_record::{TallyRow, tally};
+use crate::tallies::put_tally;
 use std::alloc::{AllocError, Global};
 use text_num::put_dec;
 
@@ -19,10 +17,8 @@ pub(crate) fn put_run(alloc: Global, out: &mut Vec<u8>, run: &JoinedRun) -> Resu
     if run.kept.run == 0 {
         return Ok(());
     }
-    read_counts(&run.kept.drains);
     put_run_line(out, run)?;
-    let rows = tally(alloc, &run.kept)?;
-    put_rows(out, &rows)
+    put_tally(alloc, out, &run.kept)
 }
 
 fn put_run_line(out: &mut Vec<u8>, run: &JoinedRun) -> Result<(), AllocError>
@@ -43,51 +39,4 @@ fn ending_of(whole: bool) -> &'static [u8]
     ensures { result.now ≡ ending whole }
 {
     if whole { b"whole" } else { b"cut" }
-}
-
-fn put_rows(out: &mut Vec<u8>, rows: &[TallyRow]) -> Result<(), AllocError>
-    requires { All (λ row. taken row < 2 ^ 128) rows.now }
-    ensures { OnOk result (out.new.items ≡ out.old.items ++ flat_map row_line rows.now) }
-{
-    for row in rows {
-        put_row(out, row)?;
-    }
-    Ok(())
-}
-
-fn put_row(out: &mut Vec<u8>, row: &TallyRow) -> Result<(), AllocError>
-    requires { taken row.now < 2 ^ 128 }
-    ensures { OnOk result (out.new.items ≡ out.old.items ++ row_line row.now) }
-{
-    put_row_start(out, row)?;
-    out.push(b' ')?;
-    put_row_end(out, row)?;
-    out.push(b'\n')?;
-    Ok(())
-}
-
-fn put_row_start(out: &mut Vec<u8>, row: &TallyRow) -> Result<(), AllocError>
-    requires { taken row.now < 2 ^ 128 }
-    ensures { OnOk result (out.new.items ≡ out.old.items
-        ++ join_with_byte 32 (row_start row.now)) }
-{
-    out.extend_from_slice(b"c ")?;
-    put_dec(out, u128::from(row.cpu))?;
-    out.push(b' ')?;
-    out.extend_from_slice(row.event.name())?;
-    out.extend_from_slice(b" taken ")?;
-    put_dec(out, row.attributed + row.unknown + row.lost)?;
-    Ok(())
-}
-
-fn put_row_end(out: &mut Vec<u8>, row: &TallyRow) -> Result<(), AllocError>
-    ensures { OnOk result (out.new.items ≡ out.old.items ++ join_with_byte 32 (row_end row.now)) }
-{
-    out.extend_from_slice(b"known ")?;
-    put_dec(out, row.attributed)?;
-    out.extend_from_slice(b" unknown ")?;
-    put_dec(out, row.unknown)?;
-    out.extend_from_slice(b" lost ")?;
-    put_dec(out, row.lost)?;
-    Ok(())
 }

@@ -1,5 +1,5 @@
 -- One more segment: it is not read, not added, or joined and printed; behind the last one the text is whole.
-use Rattle.std.proofs.Common.{arith, ◌≡◌, ℕ, ◌<◌, None, ◌∙◌, subst}
+use Rattle.std.proofs.Common.{arith, ◌≡◌, ℕ, ◌<◌, List, None, ◌∙◌, subst}
 use Rattle.std.proofs.lemmas.Result.{err_from_is_err_and}
 use Rattle.store_io.proofs.Chains.{reads_then}
 use Rattle.database_state.specs.Standing.{segments_to}
@@ -39,4 +39,4 @@ pub returns-clause-listed : goal.returns-clause-listed
 returns-clause-listed g c = λ files told.
     let whole : c.loop-before.before ≡ (head_of c.args.db.now).generation = omega arith in
     let all = lists_all files c.loop-before.before c.loop-before.text.items c.loop-before.run (c.loop-before.invariant.told files told) in
-    subst (λ (n : ℕ). (first_bad (segments_to n files) ≡ None) × (c.put_run.new.out.items ≡ listing_of (segments_to n files))) whole (all.0, c.in_ok-put_run.ensures ∙ all.1)
+    subst (λ (n : ℕ). (first_bad (segments_to n files) ≡ None) × (c.put_run.new.out.items ≡ listing_of (segments_to n files))) whole (all.0, ◌∙◌ {A = List ℕ} c.in_ok-put_run.ensures all.1)
