@@ -26,7 +26,7 @@ use Rattle.epoch_store.proofs.Order.{and_first, and_second}
 use Rattle.epoch_store.proofs.RowOrders.{known_order, unknown_order}
 use Rattle.direct_counts.proofs.Order.{both_same}
 use Rattle.direct_counts.proofs.Rows.{Leads}
-use Rattle.counts_listing.specs.Sections.{Part, part_at, parts_at, part_cmp, part_rows, event_at, unknown_listed}
+use Rattle.counts_listing.specs.Sections.{Section, section_at, sections_at, section_cmp, section_rows, event_at, unknown_listed}
 use Rattle.counts_listing.proofs.Blocks.{known_climbs, unknown_climbs, block_rises, block_led}
 use Rattle.counts_listing.proofs.Heads.{IsKnownWithin, coded, names_same}
 
@@ -44,8 +44,8 @@ all_behind {R} {before} {same} order x (y ∷ rows) first rising =
 
 -- ---- sections are apart
 
-pub part_total : IsTotalOrder part_cmp
-part_total = then_total (on_total (λ (p : Part). p.epoch) nat_cmp_total) (then_total (on_total (λ (p : Part). p.image) nat_list_cmp_total) (on_total (λ (p : Part). code_of p.event) nat_cmp_total))
+pub section_total : IsTotalOrder section_cmp
+section_total = then_total (on_total (λ (p : Section). p.epoch) nat_cmp_total) (then_total (on_total (λ (p : Section). p.image) nat_list_cmp_total) (on_total (λ (p : Section). code_of p.event) nat_cmp_total))
 
 equal_numbers : (x y : ℕ) → is_eq (nat_cmp x y) ≡ eqb x y
 equal_numbers x y = grind (arith, nat_tests)
@@ -54,17 +54,17 @@ three_and : (a b c : Bool) → (a && (b && c)) ≡ ((a && b) && c)
 three_and false b c = refl
 three_and true b c = refl
 
--- two parts have one place where their three fields are the same
-pub same_place : (a b : Part) → eq_by_cmp part_cmp a b ≡ (eqb a.epoch b.epoch && (bytes_eq a.image b.image && eqb (code_of a.event) (code_of b.event)))
+-- two sections have one place where their three fields are the same
+pub same_place : (a b : Section) → eq_by_cmp section_cmp a b ≡ (eqb a.epoch b.epoch && (bytes_eq a.image b.image && eqb (code_of a.event) (code_of b.event)))
 same_place a b =
     sym (tied_then (nat_cmp a.epoch b.epoch) (ordering_then (slice_cmp nat_cmp a.image b.image) (nat_cmp (code_of a.event) (code_of b.event))))
     ∙ both_same (equal_numbers a.epoch b.epoch)
     (sym (tied_then (slice_cmp nat_cmp a.image b.image) (nat_cmp (code_of a.event) (code_of b.event)))
     ∙ both_same (is_eq-slice_cmp a.image b.image) (equal_numbers (code_of a.event) (code_of b.event)))
 
-one_apart : (names : List (List ℕ)) (row later : KnownRow) (rows others : List ProfileRow) → IsDistinct bytes_eq names → IsKnownWithin (length names) row → IsKnownWithin (length names) later → known_before row later ≡ true → eq_by_cmp part_cmp (part_at names row rows) (part_at names later others) ≡ false
+one_apart : (names : List (List ℕ)) (row later : KnownRow) (rows others : List ProfileRow) → IsDistinct bytes_eq names → IsKnownWithin (length names) row → IsKnownWithin (length names) later → known_before row later ≡ true → eq_by_cmp section_cmp (section_at names row rows) (section_at names later others) ≡ false
 one_apart names row later rows others apart within here before =
-    same_place (part_at names row rows) (part_at names later others)
+    same_place (section_at names row rows) (section_at names later others)
     ∙ both_same {a = eqb row.epoch later.epoch} refl (both_same (names_same names row.image later.image apart within.0 here.0) (codes within.1 here.1))
     ∙ three_and (eqb row.epoch later.epoch) (eqb row.image later.image) (eqb row.event later.event)
     ∙ known_order.apart row later before
@@ -73,20 +73,20 @@ one_apart names row later rows others apart within here before =
     codes first second = rw (coded row.event first, coded later.event second) refl
 
 all_apart : (names : List (List ℕ)) (row : KnownRow) (mine : List ProfileRow) (rows : List KnownRow) (profiles : List (List ProfileRow)) → IsDistinct bytes_eq names → IsKnownWithin (length names) row → AllByRecursion (IsKnownWithin (length names)) rows → AllByRecursion (λ later. known_before row later ≡ true) rows
-    → AllByRecursion (λ part. eq_by_cmp part_cmp (part_at names row mine) part ≡ false) (parts_at names rows profiles)
+    → AllByRecursion (λ section. eq_by_cmp section_cmp (section_at names row mine) section ≡ false) (sections_at names rows profiles)
 all_apart names row mine [] profiles apart within all behind = tt
 all_apart names row mine (later ∷ rows) [] apart within all behind = tt
 all_apart names row mine (later ∷ rows) (profile ∷ profiles) apart within all behind =
     (one_apart names row later mine profile apart within all.0 behind.0, all_apart names row mine rows profiles apart within all.1 behind.1)
 
-pub parts_apart : (names : List (List ℕ)) (rows : List KnownRow) (profiles : List (List ProfileRow)) → IsDistinct bytes_eq names → AllByRecursion (IsKnownWithin (length names)) rows → is_rising known_before rows ≡ true → IsDistinct (eq_by_cmp part_cmp) (parts_at names rows profiles)
+pub sections_apart : (names : List (List ℕ)) (rows : List KnownRow) (profiles : List (List ProfileRow)) → IsDistinct bytes_eq names → AllByRecursion (IsKnownWithin (length names)) rows → is_rising known_before rows ≡ true → IsDistinct (eq_by_cmp section_cmp) (sections_at names rows profiles)
 unfolding IsDistinct
-parts_apart names [] profiles apart within rising = tt
-parts_apart names (row ∷ rows) [] apart within rising = tt
-parts_apart names (row ∷ rows) (profile ∷ profiles) apart within rising =
+sections_apart names [] profiles apart within rising = tt
+sections_apart names (row ∷ rows) [] apart within rising = tt
+sections_apart names (row ∷ rows) (profile ∷ profiles) apart within rising =
     let first = and_first (is_before_first known_before row rows) (is_rising known_before rows) rising in
     let others = and_second (is_before_first known_before row rows) (is_rising known_before rows) rising in
-    (all_apart names row profile rows profiles apart within.0 within.1 (all_behind known_order row rows first others), parts_apart names rows profiles apart within.1 others)
+    (all_apart names row profile rows profiles apart within.0 within.1 (all_behind known_order row rows first others), sections_apart names rows profiles apart within.1 others)
 
 -- ---- sorted sections
 
@@ -104,45 +104,45 @@ sorted_map {X} f lt (x ∷ xs) sorted k d low high =
 wrong : {P : Type 0} → true ≡ false → P
 wrong h = cc
 
-strict : (r : Ordering) (a b : Part) → part_cmp a b ≡ r → is_lt (part_cmp b a) ≡ false → eq_by_cmp part_cmp a b ≡ false → part_cmp a b ≡ Less
+strict : (r : Ordering) (a b : Section) → section_cmp a b ≡ r → is_lt (section_cmp b a) ≡ false → eq_by_cmp section_cmp a b ≡ false → section_cmp a b ≡ Less
 strict Less a b is sorted apart = is
 strict Equal a b is sorted apart = wrong (sym (ap is_eq is) ∙ apart)
-strict Greater a b is sorted apart = wrong (sym (ap is_lt (part_total.antisymm b a ∙ ap ordering_reverse is)) ∙ sorted)
+strict Greater a b is sorted apart = wrong (sym (ap is_lt (section_total.antisymm b a ∙ ap ordering_reverse is)) ∙ sorted)
 
-pub strictly_sorted : (parts : List Part) → IsSorted part_cmp parts → IsDistinct (eq_by_cmp part_cmp) parts → IsStrictlySortedBy part_cmp parts
+pub strictly_sorted : (sections : List Section) → IsSorted section_cmp sections → IsDistinct (eq_by_cmp section_cmp) sections → IsStrictlySortedBy section_cmp sections
 unfolding IsStrictlySortedBy
 strictly_sorted [] sorted apart = tt
-strictly_sorted (part ∷ parts) sorted apart =
-    sorted_from_all_adjacent part_total (part ∷ parts) part (λ k within. strict (part_cmp (get_or (part ∷ parts) k part) (get_or (part ∷ parts) (k + 1) part)) (get_or (part ∷ parts) k part) (get_or (part ∷ parts) (k + 1) part) refl (sorted k part (omega arith) within)
-    (apart_from_distinct (eq_by_cmp part_cmp) (part ∷ parts) k (k + 1) part apart (omega arith) within))
+strictly_sorted (section ∷ sections) sorted apart =
+    sorted_from_all_adjacent section_total (section ∷ sections) section (λ k within. strict (section_cmp (get_or (section ∷ sections) k section) (get_or (section ∷ sections) (k + 1) section)) (get_or (section ∷ sections) k section) (get_or (section ∷ sections) (k + 1) section) refl (sorted k section (omega arith) within)
+    (apart_from_distinct (eq_by_cmp section_cmp) (section ∷ sections) k (k + 1) section apart (omega arith) within))
 
-pub moved_apart : (parts sorted : List Part) → IsPermutation parts sorted → IsDistinct (eq_by_cmp part_cmp) parts → IsDistinct (eq_by_cmp part_cmp) sorted
-moved_apart parts sorted moved apart = IsDistinct-IsPermutation (eq_by_cmp part_cmp) (eq_by_cmp_equiv part_total).symm parts sorted moved apart
+pub moved_apart : (sections sorted : List Section) → IsPermutation sections sorted → IsDistinct (eq_by_cmp section_cmp) sections → IsDistinct (eq_by_cmp section_cmp) sorted
+moved_apart sections sorted moved apart = IsDistinct-IsPermutation (eq_by_cmp section_cmp) (eq_by_cmp_equiv section_total).symm sections sorted moved apart
 
 -- ---- their counts rise
 
-part_then : (a b c d : Ordering) → ordering_then a (ordering_then b c) ≡ Less → ordering_then a (ordering_then b (ordering_then c d)) ≡ Less
-part_then Less b c d h = refl
-part_then Equal Less c d h = refl
-part_then Equal Equal Less d h = refl
-part_then Equal Equal Equal d h = cc
-part_then Equal Equal Greater d h = cc
-part_then Equal Greater c d h = cc
-part_then Greater b c d h = cc
+then_less : (a b c d : Ordering) → ordering_then a (ordering_then b c) ≡ Less → ordering_then a (ordering_then b (ordering_then c d)) ≡ Less
+then_less Less b c d h = refl
+then_less Equal Less c d h = refl
+then_less Equal Equal Less d h = refl
+then_less Equal Equal Equal d h = cc
+then_less Equal Equal Greater d h = cc
+then_less Equal Greater c d h = cc
+then_less Greater b c d h = cc
 
-part_before : (a b : Part) (o p : ℕ) → part_cmp a b ≡ Less → spot_cmp (Known a.epoch a.image a.event o) (Known b.epoch b.image b.event p) ≡ Less
-part_before a b o p before = part_then (nat_cmp a.epoch b.epoch) (slice_cmp nat_cmp a.image b.image) (nat_cmp (code_of a.event) (code_of b.event)) (nat_cmp o p) before
+section_before : (a b : Section) (o p : ℕ) → section_cmp a b ≡ Less → spot_cmp (Known a.epoch a.image a.event o) (Known b.epoch b.image b.event p) ≡ Less
+section_before a b o p before = then_less (nat_cmp a.epoch b.epoch) (slice_cmp nat_cmp a.image b.image) (nat_cmp (code_of a.event) (code_of b.event)) (nat_cmp o p) before
 
-leads_parts : (part : Part) (o : ℕ) (parts : List Part) → AllByRecursion (λ other. part_cmp part other ≡ Less) parts → Leads (Known part.epoch part.image part.event o) (flat_map part_rows parts)
-leads_parts part o [] all = tt
-leads_parts part o (other ∷ parts) all =
-    block_led (Known part.epoch part.image part.event o) (λ p. Known other.epoch other.image other.event p) other.rows (flat_map part_rows parts) (λ p. part_before part other o p all.0) (leads_parts part o parts all.1)
+leads_sections : (section : Section) (o : ℕ) (sections : List Section) → AllByRecursion (λ other. section_cmp section other ≡ Less) sections → Leads (Known section.epoch section.image section.event o) (flat_map section_rows sections)
+leads_sections section o [] all = tt
+leads_sections section o (other ∷ sections) all =
+    block_led (Known section.epoch section.image section.event o) (λ p. Known other.epoch other.image other.event p) other.rows (flat_map section_rows sections) (λ p. section_before section other o p all.0) (leads_sections section o sections all.1)
 
-pub parts_rise : (parts : List Part) → IsStrictlySortedBy part_cmp parts → AllByRecursion (λ part. AreRows part.rows) parts → Rises (flat_map part_rows parts)
+pub sections_rise : (sections : List Section) → IsStrictlySortedBy section_cmp sections → AllByRecursion (λ section. AreRows section.rows) sections → Rises (flat_map section_rows sections)
 unfolding IsStrictlySortedBy
-parts_rise [] sorted all = tt
-parts_rise (part ∷ parts) sorted all =
-    block_rises (λ o. Known part.epoch part.image part.event o) (known_climbs part.epoch part.image part.event) 0 part.rows all.0 (flat_map part_rows parts) (parts_rise parts sorted.1 all.1) (λ o. leads_parts part o parts sorted.0)
+sections_rise [] sorted all = tt
+sections_rise (section ∷ sections) sorted all =
+    block_rises (λ o. Known section.epoch section.image section.event o) (known_climbs section.epoch section.image section.event) 0 section.rows all.0 (flat_map section_rows sections) (sections_rise sections sorted.1 all.1) (λ o. leads_sections section o sections sorted.0)
 
 -- ---- unknown counts rise
 

@@ -9,7 +9,7 @@ use Rattle.database_model.specs.declared.profiles.ProfileRow.{ProfileRow}
 use Rattle.database_state.specs.declared.rows.KnownRow.{KnownRow}
 use Rattle.database_state.specs.declared.rows.UnknownRow.{UnknownRow}
 use Rattle.direct_counts.proofs.Rows.{Leads, rises_from, rises_first, rises_leads, rises_rest}
-use Rattle.counts_listing.specs.Sections.{Part, event_at, part_at, parts_at, unknown_listed, unknown_rows}
+use Rattle.counts_listing.specs.Sections.{Section, event_at, section_at, sections_at, unknown_listed, unknown_rows}
 
 pub next_here : {R Y : Type 0} (F : List R → Y) (rows : List R) (row : R) (i : ℕ) → i < length rows → row ≡ get_or rows i row → F (drop i rows) ≡ F (row ∷ drop (i + 1) rows)
 next_here {R} F rows row i within here = at_drop_more F rows i row within ∙ ap (λ (x : R). F (x ∷ drop (i + 1) rows)) (sym here)
@@ -19,15 +19,15 @@ both_next : {R P Y : Type 0} (F : List R → List P → Y) (rows : List R) (prof
 both_next F rows profiles row profile i within also here there =
     next_here (λ l. F l (drop i profiles)) rows row i within here ∙ next_here (λ l. F (row ∷ drop (i + 1) rows) l) profiles profile i also there
 
-pub part_placed : (names : List (List ℕ)) (rows : List KnownRow) (profiles : List (List ProfileRow)) (row : KnownRow) (profile : List ProfileRow) (i : ℕ) (done whole : List Part) → i < length rows → i < length profiles → row ≡ get_or rows i row → profile ≡ get_or profiles i profile
-    → done ++ parts_at names (drop i rows) (drop i profiles) ≡ whole → (done ++ part_at names row profile ∷ []) ++ parts_at names (drop (i + 1) rows) (drop (i + 1) profiles) ≡ whole
-part_placed names rows profiles row profile i done whole within also here there before =
-    append_assoc done (part_at names row profile ∷ []) (parts_at names (drop (i + 1) rows) (drop (i + 1) profiles))
-    ∙ ap (λ (l : List Part). done ++ l) (sym (both_next (parts_at names) rows profiles row profile i within also here there)) ∙ before
+pub section_placed : (names : List (List ℕ)) (rows : List KnownRow) (profiles : List (List ProfileRow)) (row : KnownRow) (profile : List ProfileRow) (i : ℕ) (done whole : List Section) → i < length rows → i < length profiles → row ≡ get_or rows i row → profile ≡ get_or profiles i profile
+    → done ++ sections_at names (drop i rows) (drop i profiles) ≡ whole → (done ++ section_at names row profile ∷ []) ++ sections_at names (drop (i + 1) rows) (drop (i + 1) profiles) ≡ whole
+section_placed names rows profiles row profile i done whole within also here there before =
+    append_assoc done (section_at names row profile ∷ []) (sections_at names (drop (i + 1) rows) (drop (i + 1) profiles))
+    ∙ ap (λ (l : List Section). done ++ l) (sym (both_next (sections_at names) rows profiles row profile i within also here there)) ∙ before
 
-pub all_placed : (names : List (List ℕ)) (rows : List KnownRow) (profiles : List (List ProfileRow)) (i : ℕ) (done whole : List Part) → length rows ≤ i → done ++ parts_at names (drop i rows) (drop i profiles) ≡ whole → done ≡ whole
+pub all_placed : (names : List (List ℕ)) (rows : List KnownRow) (profiles : List (List ProfileRow)) (i : ℕ) (done whole : List Section) → length rows ≤ i → done ++ sections_at names (drop i rows) (drop i profiles) ≡ whole → done ≡ whole
 all_placed names rows profiles i done whole past before =
-    sym (append-nil done) ∙ ap (λ (l : List Part). done ++ l) (sym (at_drop_all (λ l. parts_at names l (drop i profiles)) rows i past)) ∙ before
+    sym (append-nil done) ∙ ap (λ (l : List Section). done ++ l) (sym (at_drop_all (λ l. sections_at names l (drop i profiles)) rows i past)) ∙ before
 
 pub push_all : {X : Type 0} (P : X → Type 0) (xs : List X) (x : X) → AllByRecursion P xs → P x → AllByRecursion P (xs ++ x ∷ [])
 push_all P [] x all this = (this, tt)

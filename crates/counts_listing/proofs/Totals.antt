@@ -26,21 +26,21 @@ use Rattle.dcpiprof_report.specs.Sums.{told_rows}
 use Rattle.direct_counts.specs.Sites.{counted_at, total_at}
 use Rattle.direct_counts.proofs.Order.{both_same}
 use Rattle.counts_listing.specs.Counting.{AreCountsIn, count_in, sum_at}
-use Rattle.counts_listing.specs.Sections.{Part, all_told, event_at, known_total, part_at, part_rows, parts_at, unknown_listed, unknown_rows, unknown_total}
+use Rattle.counts_listing.specs.Sections.{Section, all_told, event_at, known_total, section_at, section_rows, sections_at, unknown_listed, unknown_rows, unknown_total}
 use Rattle.counts_listing.proofs.Blocks.{block_total, block_total_none}
 use Rattle.counts_listing.proofs.Heads.{IsKnownWithin, Sound, coded, is_named, not_named}
 
 -- ---- sections one after the other
 
-pub flat_total : (spot : Spot) (parts : List Part) → total_at spot (flat_map part_rows parts) ≡ sum_by (λ part. total_at spot (part_rows part)) parts
+pub flat_total : (spot : Spot) (sections : List Section) → total_at spot (flat_map section_rows sections) ≡ sum_by (λ section. total_at spot (section_rows section)) sections
 flat_total spot [] = refl
-flat_total spot (part ∷ parts) =
-    sum_by-append (counted_at spot) (part_rows part) (flat_map part_rows parts)
-    ∙ ap (λ n. total_at spot (part_rows part) + n) (flat_total spot parts)
-    ∙ sym (sum_by-cons (λ (p : Part). total_at spot (part_rows p)) part parts)
+flat_total spot (section ∷ sections) =
+    sum_by-append (counted_at spot) (section_rows section) (flat_map section_rows sections)
+    ∙ ap (λ n. total_at spot (section_rows section) + n) (flat_total spot sections)
+    ∙ sym (sum_by-cons (λ (p : Section). total_at spot (section_rows p)) section sections)
 
-pub moved_total : (spot : Spot) (parts sorted : List Part) → IsPermutation parts sorted → total_at spot (flat_map part_rows sorted) ≡ sum_by (λ part. total_at spot (part_rows part)) parts
-moved_total spot parts sorted moved = flat_total spot sorted ∙ sum_by-IsPermutation (λ (part : Part). total_at spot (part_rows part)) parts sorted moved
+pub moved_total : (spot : Spot) (sections sorted : List Section) → IsPermutation sections sorted → total_at spot (flat_map section_rows sorted) ≡ sum_by (λ section. total_at spot (section_rows section)) sections
+moved_total spot sections sorted moved = flat_total spot sorted ∙ sum_by-IsPermutation (λ (section : Section). total_at spot (section_rows section)) sections sorted moved
 
 -- ---- the row of a place, as a sum over rows
 
@@ -66,8 +66,8 @@ found_sum {R} {before} {same} order p F (row ∷ rows) none rising =
 -- ---- known places
 
 -- what a section counts at a known place
-pub known_here : (e : ℕ) (image : List ℕ) (v : Event) (o : ℕ) (part : Part) → total_at (Known e image v o) (part_rows part) ≡ cond (eqb e part.epoch && bytes_eq image part.image && eqb (code_of v) (code_of part.event)) (sum_at o part.rows) 0
-known_here e image v o part = block_total (Known e image v o) (λ p. Known part.epoch part.image part.event p) (eqb e part.epoch && bytes_eq image part.image && eqb (code_of v) (code_of part.event)) o (λ p. refl) part.rows
+pub known_here : (e : ℕ) (image : List ℕ) (v : Event) (o : ℕ) (section : Section) → total_at (Known e image v o) (section_rows section) ≡ cond (eqb e section.epoch && bytes_eq image section.image && eqb (code_of v) (code_of section.event)) (sum_at o section.rows) 0
+known_here e image v o section = block_total (Known e image v o) (λ p. Known section.epoch section.image section.event p) (eqb e section.epoch && bytes_eq image section.image && eqb (code_of v) (code_of section.event)) o (λ p. refl) section.rows
 
 pub added : {a b c d : ℕ} → a ≡ c → b ≡ d → a + b ≡ c + d
 added p q = rw (p, q) refl
@@ -80,8 +80,8 @@ module _ (files : Files) (names : List (List ℕ)) (e : ℕ) (image : List ℕ) 
       ≡ cond (eqb e row.epoch && bytes_eq image (text_at names row.image) && eqb (code_of v) (code_of (event_at row.event))) (told_at row) 0 + known_total (Known e image v o) names rows (all_told files known_ref rows)
   known_first row rows =
       let told = told_rows files (known_ref row) in
-      sum_by-cons (λ (p : Part). total_at (Known e image v o) (part_rows p)) (part_at names row told) (parts_at names rows (all_told files known_ref rows))
-      ∙ ap (λ n. n + known_total (Known e image v o) names rows (all_told files known_ref rows)) (known_here e image v o (part_at names row told))
+      sum_by-cons (λ (p : Section). total_at (Known e image v o) (section_rows p)) (section_at names row told) (sections_at names rows (all_told files known_ref rows))
+      ∙ ap (λ n. n + known_total (Known e image v o) names rows (all_told files known_ref rows)) (known_here e image v o (section_at names row told))
 
   -- an image with a number
   pub known_some : (n : ℕ) (rows : List KnownRow) → IsDistinct bytes_eq names → place_of image names ≡ Some n → AllByRecursion (IsKnownWithin (length names)) rows
@@ -123,11 +123,11 @@ known_not_unknown e image v o (row ∷ rows) (profile ∷ profiles) =
 
 -- ---- unknown places
 
-pub unknown_not_known : (e : ℕ) (v : Event) (pc : ℕ) (parts : List Part) → sum_by (λ part. total_at (Unknown e v pc) (part_rows part)) parts ≡ 0
+pub unknown_not_known : (e : ℕ) (v : Event) (pc : ℕ) (sections : List Section) → sum_by (λ section. total_at (Unknown e v pc) (section_rows section)) sections ≡ 0
 unknown_not_known e v pc [] = refl
-unknown_not_known e v pc (part ∷ parts) =
-    sum_by-cons (λ (p : Part). total_at (Unknown e v pc) (part_rows p)) part parts
-    ∙ added (block_total_none (Unknown e v pc) (λ p. Known part.epoch part.image part.event p) (λ p. refl) part.rows) (unknown_not_known e v pc parts)
+unknown_not_known e v pc (section ∷ sections) =
+    sum_by-cons (λ (p : Section). total_at (Unknown e v pc) (section_rows p)) section sections
+    ∙ added (block_total_none (Unknown e v pc) (λ p. Known section.epoch section.image section.event p) (λ p. refl) section.rows) (unknown_not_known e v pc sections)
 
 pub unknown_sum : (files : Files) (e : ℕ) (v : Event) (pc : ℕ) (rows : List UnknownRow) → AllByRecursion (λ (row : UnknownRow). row.event ≤ 3) rows
     → unknown_total (Unknown e v pc) rows (all_told files unknown_ref rows) ≡ sum_by (λ row. cond (unknown_same (unknown_place e (code_of v)) row) (sum_at pc (told_rows files (unknown_ref row))) 0) rows
@@ -156,7 +156,7 @@ none_less a b c p q = omega arith
 pub counted : (files : Files) (head : Head) → Sound head → (spot : Spot)
     → known_total spot head.names head.known (all_told files known_ref head.known) + unknown_total spot head.unknown (all_told files unknown_ref head.unknown) ≡ count_in (database_of head files) spot
 counted files head sound (Known e image v o) = no_more _ _ _ (known_counts files head sound e image v o (place_of image head.names) refl) (known_not_unknown e image v o head.unknown (all_told files unknown_ref head.unknown))
-counted files head sound (Unknown e v pc) = none_less _ _ _ (unknown_not_known e v pc (parts_at head.names head.known (all_told files known_ref head.known))) (unknown_counts files head sound e v pc)
+counted files head sound (Unknown e v pc) = none_less _ _ _ (unknown_not_known e v pc (sections_at head.names head.known (all_told files known_ref head.known))) (unknown_counts files head sound e v pc)
 
 -- rows that list what the profiles of a head count are the counts of the database
 pub are_counts : (files : Files) (head : Head) → Sound head → (rows : List Row) (known unknown : List (List ProfileRow)) → Rises rows

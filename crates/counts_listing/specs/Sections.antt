@@ -15,7 +15,7 @@ use Rattle.database_state.specs.declared.rows.KnownRow.{KnownRow}
 use Rattle.database_state.specs.declared.rows.UnknownRow.{UnknownRow}
 use Rattle.dcpiprof_report.specs.Sums.{told_rows}
 use Rattle.direct_counts.specs.Sites.{total_at}
-use Rattle.counts_listing.specs.declared.sections.Section.{Section}
+use Rattle.counts_listing.specs.declared.sections.Section.{Section as Lent}
 
 -- what the files of these rows tell
 abbrev pub all_told : {R : Type 0} → Files → (R → FileRef) → List R → List (List ProfileRow)
@@ -25,29 +25,29 @@ all_told files ref rows = map (λ row. told_rows files (ref row)) rows
 abbrev pub event_at : ℕ → Event
 event_at code = unwrap_or (event_of_code code) Cycles
 
--- what one profile counts: its epoch, its image by name, its event, and its rows
-pub record Part : Type 0 where
+-- a section as contracts see it: the epoch, the image by name and the event of a profile, and its rows
+pub record Section : Type 0 where
   pub epoch : ℕ
   pub image : List ℕ
   pub event : Event
   pub rows : List ProfileRow
 
-abbrev pub part_of : Section → Part
-part_of section = record { epoch = section.epoch; image = section.image.now; event = section.event; rows = section.rows.now }
+abbrev pub section_shown : Lent → Section
+section_shown section = record { epoch = section.epoch; image = section.image.now; event = section.event; rows = section.rows.now }
 
--- the profile of a row
-abbrev pub part_at : List (List ℕ) → KnownRow → List ProfileRow → Part
-part_at names row rows = record { epoch = row.epoch; image = text_at names row.image; event = event_at row.event; rows = rows }
+-- the section of a row
+abbrev pub section_at : List (List ℕ) → KnownRow → List ProfileRow → Section
+section_at names row rows = record { epoch = row.epoch; image = text_at names row.image; event = event_at row.event; rows = rows }
 
--- the profiles of rows, where these are what they count
-abbrev pub parts_at : List (List ℕ) → List KnownRow → List (List ProfileRow) → List Part
-parts_at names [] profiles = []
-parts_at names (row ∷ rows) [] = []
-parts_at names (row ∷ rows) (profile ∷ profiles) = part_at names row profile ∷ parts_at names rows profiles
+-- the sections of rows, where these are their profiles
+abbrev pub sections_at : List (List ℕ) → List KnownRow → List (List ProfileRow) → List Section
+sections_at names [] profiles = []
+sections_at names (row ∷ rows) [] = []
+sections_at names (row ∷ rows) (profile ∷ profiles) = section_at names row profile ∷ sections_at names rows profiles
 
 -- the order of sections: by epoch, then by image name, then by event code
-abbrev pub part_cmp : Part → Part → Ordering
-part_cmp a b = ordering_then (nat_cmp a.epoch b.epoch) (ordering_then (slice_cmp nat_cmp a.image b.image) (nat_cmp (code_of a.event) (code_of b.event)))
+abbrev pub section_cmp : Section → Section → Ordering
+section_cmp a b = ordering_then (nat_cmp a.epoch b.epoch) (ordering_then (slice_cmp nat_cmp a.image b.image) (nat_cmp (code_of a.event) (code_of b.event)))
 
 -- what rows of a profile count, as rows of the listing: an offset stands for this place
 abbrev pub counts_at : (ℕ → Spot) → List ProfileRow → List Row
@@ -61,12 +61,12 @@ abbrev pub unknown_rows : ℕ → Event → List ProfileRow → List Row
 unknown_rows epoch event rows = counts_at (λ pc. Unknown epoch event pc) rows
 
 -- the counts of a section
-abbrev pub part_rows : Part → List Row
-part_rows part = known_rows part.epoch part.image part.event part.rows
+abbrev pub section_rows : Section → List Row
+section_rows section = known_rows section.epoch section.image section.event section.rows
 
 -- how much known profiles count at a place
 abbrev pub known_total : Spot → List (List ℕ) → List KnownRow → List (List ProfileRow) → ℕ
-known_total spot names rows profiles = sum_by (λ part. total_at spot (part_rows part)) (parts_at names rows profiles)
+known_total spot names rows profiles = sum_by (λ section. total_at spot (section_rows section)) (sections_at names rows profiles)
 
 -- the counts of unknown profiles, one after the other
 abbrev pub unknown_listed : List UnknownRow → List (List ProfileRow) → List Row

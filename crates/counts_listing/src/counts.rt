@@ -5,7 +5,7 @@ ghost use Rattle.database_model.specs.Ranges.{AreRows};
 ghost use Rattle.trace_model.specs.Counting.{Rises, Spot, known_row, unknown_row};
 ghost use Rattle.direct_counts.specs.Sites.{total_at};
 ghost use Rattle.epoch_store.specs.Databases.{head_of};
-ghost use Rattle.counts_listing.specs.Sections.{known_total, part_of, part_rows, unknown_rows, unknown_total};
+ghost use Rattle.counts_listing.specs.Sections.{known_total, section_shown, section_rows, unknown_rows, unknown_total};
 
 use crate::sections::{Section, event_of, sections_of};
 use database_model::ProfileRow;
@@ -34,7 +34,7 @@ pub(crate) fn known_counts(
 // What the sections count, one after the other.
 fn in_order(alloc: Global, sections: &[Section<'_>]) -> Result<Vec<KnownCount>, AllocError>
     ensures { IfOk result (λ known. map known_row known.items
-        ≡ flat_map part_rows (map part_of sections.now)) }
+        ≡ flat_map section_rows (map section_shown sections.now)) }
 {
     let mut known = Vec::new(alloc);
     for section in sections {
@@ -49,7 +49,7 @@ fn add_known(
     section: &Section<'_>,
 ) -> Result<(), AllocError>
     ensures { OnOk result (map known_row known.new.items
-        ≡ map known_row known.old.items ++ part_rows (part_of section.now)) }
+        ≡ map known_row known.old.items ++ section_rows (section_shown section.now)) }
 {
     known.reserve(section.rows.len())?;
     for row in section.rows {

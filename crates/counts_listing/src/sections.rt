@@ -7,7 +7,7 @@ ghost use Rattle.std.specs.List.Sorted.{IsPermutation, IsStrictlySortedBy};
 ghost use Rattle.sample_key.specs.Events.{code_of};
 ghost use Rattle.database_model.specs.Ranges.{AreRows};
 ghost use Rattle.epoch_store.specs.Databases.{head_of};
-ghost use Rattle.counts_listing.specs.Sections.{event_at, part_at, part_cmp, part_of, parts_at};
+ghost use Rattle.counts_listing.specs.Sections.{event_at, section_at, section_cmp, section_shown, sections_at};
 
 use database_model::ProfileRow;
 use epoch_store::{Database, KnownRow};
@@ -33,12 +33,12 @@ pub(crate) fn sections_of<'a>(
     profiles: &'a [Profile],
 ) -> Result<Vec<Section<'a>>, AllocError>
     requires { length profiles.now ≡ length (head_of db.now).known }
-    ensures whole { IfOk result (λ sections. IsPermutation (parts_at (head_of db.now).names
-        (head_of db.now).known profiles.now) (map part_of sections.items)) }
-    ensures sorted { IfOk result (λ sections. IsStrictlySortedBy part_cmp
-        (map part_of sections.items)) }
-    ensures rows { IfOk result (λ sections. AllByRecursion (λ part. AreRows part.rows)
-        (map part_of sections.items)) }
+    ensures whole { IfOk result (λ sections. IsPermutation (sections_at (head_of db.now).names
+        (head_of db.now).known profiles.now) (map section_shown sections.items)) }
+    ensures sorted { IfOk result (λ sections. IsStrictlySortedBy section_cmp
+        (map section_shown sections.items)) }
+    ensures rows { IfOk result (λ sections. AllByRecursion (λ section. AreRows section.rows)
+        (map section_shown sections.items)) }
 {
     let mut sections = unsorted(alloc, db, profiles)?;
     sections.sort_unstable_by(order_of);
@@ -52,12 +52,12 @@ fn unsorted<'a>(
     profiles: &'a [Profile],
 ) -> Result<Vec<Section<'a>>, AllocError>
     requires { length profiles.now ≡ length (head_of db.now).known }
-    ensures parts { IfOk result (λ sections. map part_of sections.items
-        ≡ parts_at (head_of db.now).names (head_of db.now).known profiles.now) }
-    ensures rows { IfOk result (λ sections. AllByRecursion (λ part. AreRows part.rows)
-        (map part_of sections.items)) }
-    ensures apart { IfOk result (λ sections. IsDistinct (eq_by_cmp part_cmp)
-        (map part_of sections.items)) }
+    ensures listed { IfOk result (λ sections. map section_shown sections.items
+        ≡ sections_at (head_of db.now).names (head_of db.now).known profiles.now) }
+    ensures rows { IfOk result (λ sections. AllByRecursion (λ section. AreRows section.rows)
+        (map section_shown sections.items)) }
+    ensures apart { IfOk result (λ sections. IsDistinct (eq_by_cmp section_cmp)
+        (map section_shown sections.items)) }
 {
     let names = db.catalog().names();
     let rows = db.known_rows();
@@ -71,7 +71,7 @@ fn unsorted<'a>(
 fn section_of<'a>(names: &'a [Name], row: &KnownRow, profile: &'a Profile) -> Section<'a>
     requires image { row.now.image < length names.now }
     requires event { row.now.event ≤ 3 }
-    ensures part { part_of result ≡ part_at names.now row.now profile.now }
+    ensures section { section_shown result ≡ section_at names.now row.now profile.now }
     ensures rows { AreRows result.rows.now }
 {
     Section {
@@ -84,7 +84,7 @@ fn section_of<'a>(names: &'a [Name], row: &KnownRow, profile: &'a Profile) -> Se
 
 // By epoch, then by image name, then by event code.
 fn order_of(a: &Section<'_>, b: &Section<'_>) -> Ordering
-    ensures { result ≡ part_cmp (part_of a.now) (part_of b.now) }
+    ensures { result ≡ section_cmp (section_shown a.now) (section_shown b.now) }
 {
     let names = a.image.bytes().cmp(b.image.bytes());
     let events = a.event.code().cmp(&b.event.code());
