@@ -193,7 +193,15 @@ fn first_wrong(alloc: Global, row: Row, steps: &[Step<'_>]) -> Result<Option<usi
 
 // A lane with so many samples at rising program counters, of a table of one bucket with buffers of one entry.
 fn narrow(rising: usize) -> Row
-    ensures { result ≡ record { rising = rising; more = 0; pc = 0; mark = 0; records = 0; buckets = 1; buffer = 1 } }
+    ensures { result ≡ record {
+      rising = rising;
+      more = 0;
+      pc = 0;
+      mark = 0;
+      records = 0;
+      buckets = 1;
+      buffer = 1;
+    } }
 {
     Row {
         rising,
@@ -208,7 +216,15 @@ fn narrow(rising: usize) -> Row
 
 // A lane with so many samples at rising program counters after so many records of one, of the usual sizes.
 fn usual(rising: usize, mark: u64) -> Row
-    ensures { result ≡ record { rising = rising; more = 0; pc = 0; mark = mark; records = 1; buckets = 4096; buffer = 8192 } }
+    ensures { result ≡ record {
+      rising = rising;
+      more = 0;
+      pc = 0;
+      mark = mark;
+      records = 1;
+      buckets = 4096;
+      buffer = 8192;
+    } }
 {
     Row {
         rising,

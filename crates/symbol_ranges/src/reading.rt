@@ -49,7 +49,8 @@ fn step<S: Source>(
         (prepend_known reader.old (S.left source.old))
         (prepend_known reader.new (S.left source.new)) symbols.old symbols.new) }
     ensures few { OnOk result (length symbols.new ≤ MOST_LINES) }
-    ensures stops { OnBad (Stops (prepend_known reader.old (S.left source.old)) symbols.old) result }
+    ensures stops { OnBad
+        (Stops (prepend_known reader.old (S.left source.old)) symbols.old) result }
     ensures faults { TellsFaults (S.faults source.old) (S.faults source.new) result }
 {
     let ending = reader.read_line(source, line, MOST_LINE_BYTES)?;

@@ -102,7 +102,8 @@ impl Symbols {
     // The range of a line of four fields, or the first reason that applies to it.
     fn judge(&self, fields: &Fields<'_>) -> Result<Range, SymbolWhy>
         ensures judged { IsJudgedRange self.now (texts_of fields.now) result }
-        ensures fits { IfOk result (λ range. Fits self.now (symbol_in (texts_of fields.now) range)) }
+        ensures fits { IfOk result (λ range.
+            Fits self.now (symbol_in (texts_of fields.now) range)) }
     {
         let Some(range) = range_of(fields) else {
             return Err(why_no_range(fields));
