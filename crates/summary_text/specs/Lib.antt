@@ -1,0 +1,2 @@
+-- What the contracts of a summary cite.
+pub mod Summaries
