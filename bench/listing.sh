@@ -1,6 +1,6 @@
 #!/bin/sh
-# Lists a database of 2,000 profiles with 1,000,000 rows by image with `dcpi prof`, beside the same sums in plain Rust: five times
-# each in turn, compared byte by byte, for each of the four events, whose files are a quarter of the rows each.
+# Lists a database of 2,000 profiles with 1,000,000 rows by image with `dcpi prof`, beside the same sums in plain Rust: seven times
+# each in turn, compared byte by byte.
 # usage: bench/listing.sh [PROFILES [ROWS]]
 set -eu
 scratch=$(mktemp -d)
@@ -12,24 +12,16 @@ mkdir "$scratch/db"
 "$(dirname "$0")/profiles.py" "$scratch/db" "$@"
 
 recording=/dev/null
-ours=0
-theirs=0
-code=0
-for event in cycles imiss dmiss branchmp; do
-    best=999999999
-    plain=999999999
-    for _ in 1 2 3 4 5; do
-        run_once "$scratch/dcpi.out" "$dcpi" prof "$scratch/db" image all "$event" text
-        best=$(smaller "$best" "$took")
-        run_once "$scratch/plain.out" "$scratch/plain_listing" "$scratch/db" "$code" "$event"
-        plain=$(smaller "$plain" "$took")
-        cmp "$scratch/dcpi.out" "$scratch/plain.out"
-    done
-    ours=$((ours + best))
-    theirs=$((theirs + plain))
-    code=$((code + 1))
+ours=999999999
+theirs=999999999
+for _ in 1 2 3 4 5 6 7; do
+    run_once "$scratch/dcpi.out" "$dcpi" prof "$scratch/db" image all cycles text
+    ours=$(smaller "$ours" "$took")
+    run_once "$scratch/plain.out" "$scratch/plain_listing" "$scratch/db" 0 cycles
+    theirs=$(smaller "$theirs" "$took")
+    cmp "$scratch/dcpi.out" "$scratch/plain.out"
 done
-echo "lines    $(wc -l <"$scratch/dcpi.out") a listing, byte for byte the same"
+echo "lines    $(wc -l <"$scratch/dcpi.out"), byte for byte the same"
 show time "$ours" "$theirs" 1000 ms
 if [ -x /usr/bin/time ]; then
     ours=$(peak_of "$dcpi" prof "$scratch/db" image all cycles text)

@@ -2,12 +2,11 @@
 """Writes a database of so many profiles and rows into an empty folder, for bench/listing.sh.
 
 usage: bench/profiles.py FOLDER [PROFILES [ROWS]], by default 2,000 profiles with 1,000,000 rows in all
-The profiles are of 500 images and the four events, the counts small and the offsets rising; there is one run of one processor.
+Each profile is of an image of its own and of the event cycles, the counts small and the offsets rising; there is one run of one
+processor.
 """
 import pathlib
 import sys
-
-EVENTS = 4
 
 
 def number(value):
@@ -32,13 +31,12 @@ def main():
     folder = pathlib.Path(sys.argv[1])
     profiles = int(sys.argv[2]) if len(sys.argv) > 2 else 2000
     rows = int(sys.argv[3]) if len(sys.argv) > 3 else 1000000
-    images = (profiles + EVENTS - 1) // EVENTS
-    lines = ["dcpi-head 1", "generation 1", "epoch 0", "runs 1", f"images {images}"]
-    lines += [f"/usr/lib/image-{image * 7919 % images:04d}.so" for image in range(images)]
+    lines = ["dcpi-head 1", "generation 1", "epoch 0", "runs 1", f"images {profiles}"]
+    lines += [f"/usr/lib/image-{image * 7919 % profiles:04d}.so" for image in range(profiles)]
     lines.append(f"profiles {profiles}")
     for at in range(profiles):
-        lines.append(f"0 {at // EVENTS} {at % EVENTS} 1")
-        (folder / f"p.0.{at // EVENTS}.{at % EVENTS}.1").write_bytes(profile(at, rows // profiles))
+        lines.append(f"0 {at} 0 1")
+        (folder / f"p.0.{at}.0.1").write_bytes(profile(at, rows // profiles))
     lines.append("unknowns 0")
     (folder / "head.1").write_text("\n".join(lines) + "\n")
     (folder / "r.1").write_bytes(bytes([1, 1, 0, 1, 0, 0, 1, 0]))

@@ -1,29 +1,62 @@
-//! The words and the standard streams of a process, given to the top call. The programs are one line above it.
+//! The words, the standard streams and the folder of a process, given to the top call. The programs are one line above it.
 #![tactic(auto)]
 
 use dcpi_top::dcpi_still;
 use outside_io::{StdSink, StdSource, put_all};
 use std::alloc::AllocError;
 use std::{env, io};
+use store_io::DirStore;
 
 /// The status where no memory is found for the words.
 const NO_MEMORY: u8 = 6;
 
-/// Serves the words of this process over its standard input, output and error output, and answers the exit status of the
-/// top call. A word that is not UTF-8 is of no form, so the top call then gets no words and answers 1. Where no memory is
-/// found for the words, the line of that status is written and 6 is answered.
+/// Which word names the folder of the database.
+const FOLDER_WORD: usize = 1;
+
+/// What a process was given: its words, and the folder that the second of them names.
+struct Given {
+    words: Vec<String>,
+    folder: String,
+}
+
+/// Serves the words of this process over its standard input, output and error output and the folder that the second word
+/// names, and answers the exit status of the top call. A word that is not UTF-8 is of no form, so the top call then gets no
+/// words and answers 1. Where no memory is found for the words, the line of that status is written and 6 is answered.
 pub fn serve_process(rt: &HostRuntime) -> u8 {
     let mut err = StdSink::new(rt.stderr());
-    match words(rt) {
-        Ok(words) => {
+    match found(rt) {
+        Ok(Given { words, folder }) => {
             let mut source = StdSource::new(rt.stdin());
             let mut out = StdSink::new(rt.stdout());
-            dcpi_still(rt.alloc(), &words, &mut source, &mut out, &mut err)
+            let mut store = DirStore::at(rt, folder);
+            dcpi_still(
+                rt.alloc(),
+                &words,
+                &mut source,
+                &mut store,
+                &mut out,
+                &mut err,
+            )
         }
         Err(_) => {
             let _ = put_all(&mut err, b"dcpi: out of memory\n");
             NO_MEMORY
         }
+    }
+}
+
+/// The words behind the program's name, and the folder; no words where one of them is not UTF-8.
+fn found(rt: &HostRuntime) -> Result<Given, AllocError> {
+    let words = words(rt)?;
+    let folder = folder(rt, &words)?;
+    Ok(Given { words, folder })
+}
+
+/// The second word; the empty text where there is none.
+fn folder(rt: &HostRuntime, words: &[String]) -> Result<String, AllocError> {
+    match words.get(FOLDER_WORD) {
+        Some(word) => String::from_str(rt.alloc(), word),
+        None => Ok(String::new(rt.alloc())),
     }
 }
 

@@ -1,7 +1,17 @@
-//! Tests of the top call, as tables: what is listed, what is refused, and the line of each status.
+//! Tests of the top call, as tables: what is printed, what is refused, the line of each status, and the files.
 #![tactic(auto)]
 
 #[cfg(test)]
+mod crashes;
+#[cfg(test)]
+mod listings;
+#[cfg(test)]
 mod plain;
 #[cfg(test)]
+mod refusals;
+#[cfg(test)]
+mod replays;
+#[cfg(test)]
 mod rows;
+#[cfg(test)]
+mod traces;

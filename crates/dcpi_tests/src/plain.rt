@@ -1,9 +1,9 @@
 //! The command `plain`, and words that are no command.
-use crate::rows::{Row, gives};
+use crate::rows::{Row, gives, names_of, sound_store};
+use crate::traces::{BOUNDARY, FOLD, MAP_CHANGED, NOTHING, STRANGER, TRUNCATED, TWO_EPOCHS, UNALIGNED};
+use std::alloc::Global;
+use std::process::Abort;
 use std::test::Fail;
-
-const FOLD: &[u8] =
-    b"dcpi-trace 1 cpus 1\nload 7 10000 2000 /bin/app\ns 0 7 10008 cycles\ns 0 7 10008 cycles\ns 0 7 10008 cycles\nend\n";
 
 /// A whole trace and its listing.
 const LISTED: Row = Row {
@@ -17,47 +17,47 @@ const LISTED: Row = Row {
 };
 
 const NOTHING_HELD: Row = Row {
-    input: b"dcpi-trace 1 cpus 1\nend\n",
+    input: NOTHING,
     out: b"",
     ..LISTED
 };
 
 const BOUNDARY_OF_A_MAPPING: Row = Row {
-    input: b"dcpi-trace 1 cpus 1\nload 7 10000 1000 A\ns 0 7 10ffc imiss\ns 0 7 11000 imiss\nend\n",
+    input: BOUNDARY,
     out: b"k 0 A imiss ffc 1\nu 0 imiss 11000 1\n",
     ..LISTED
 };
 
 const MAP_CHANGED_SINCE: Row = Row {
-    input: b"dcpi-trace 1 cpus 1\nload 7 10000 1000 A\ns 0 7 10004 cycles\nunload 7 10000 1000\nload 7 10000 1000 B\nend\na\nl 0\na\na\n",
+    input: MAP_CHANGED,
     out: b"k 0 A cycles 4 1\n",
     ..LISTED
 };
 
-const TWO_EPOCHS: Row = Row {
-    input: b"dcpi-trace 1 cpus 1\nload 7 10000 1000 A\ns 0 7 10000 cycles\nepoch\ns 0 7 10000 cycles\nend\n",
+const EPOCHS: Row = Row {
+    input: TWO_EPOCHS,
     out: b"k 0 A cycles 0 1\nk 1 A cycles 0 1\n",
     ..LISTED
 };
 
 const EXEC_KERNEL_STRANGER: Row = Row {
-    input: b"dcpi-trace 1 cpus 1\nkernel fffffc0000230000 10000 vmunix\nload 7 120000000 1000 old\nexec 7 120000000 2000 new\ns 0 7 120000010 cycles\ns 0 7 fffffc0000230020 cycles\ns 0 9 120000010 cycles\nend\n",
+    input: STRANGER,
     out: b"k 0 new cycles 10 1\nk 0 vmunix cycles 20 1\nu 0 cycles 120000010 1\n",
     ..LISTED
 };
 
-const UNALIGNED: Row = Row {
-    input: b"dcpi-trace 1 cpus 1\ns 0 7 1002 cycles\nend\n",
+const NO_MULTIPLE: Row = Row {
+    input: UNALIGNED,
     status: 2,
     out: b"",
     err: b"dcpi: trace line 2: Unaligned\n",
     ..LISTED
 };
 
-const TRUNCATED: Row = Row {
-    input: b"dcpi-trace 1 cpus 1\ns 0 7 10",
+const CUT: Row = Row {
+    input: TRUNCATED,
     err: b"dcpi: trace line 2: NoEnd\n",
-    ..UNALIGNED
+    ..NO_MULTIPLE
 };
 
 const NO_WORDS: Row = Row {
@@ -94,6 +94,16 @@ const FIRST_WRITE_FAILS: Row = Row {
     ..LISTED
 };
 
+// Makes each call; the store stays empty.
+fn every(rt: &impl Abort, alloc: Global, rows: &[Row<'_>]) -> Result<(), Fail> {
+    let mut store = sound_store(alloc);
+    for row in rows {
+        gives(rt, alloc, row, &mut store)?;
+    }
+    assert_eq!(rt; names_of(alloc, &mut store)?.as_slice(), b"".as_slice());
+    Ok(())
+}
+
 #[test]
 fn listings(rt: HostRuntime) -> Result<(), Fail> {
     let rows = [
@@ -101,28 +111,22 @@ fn listings(rt: HostRuntime) -> Result<(), Fail> {
         NOTHING_HELD,
         BOUNDARY_OF_A_MAPPING,
         MAP_CHANGED_SINCE,
-        TWO_EPOCHS,
+        EPOCHS,
         EXEC_KERNEL_STRANGER,
     ];
-    for row in &rows {
-        gives(&rt, rt.alloc(), row)?;
-    }
-    Ok(())
+    every(&rt, rt.alloc(), &rows)
 }
 
 #[test]
 fn refusals(rt: HostRuntime) -> Result<(), Fail> {
     let rows = [
-        UNALIGNED,
-        TRUNCATED,
+        NO_MULTIPLE,
+        CUT,
         NO_WORDS,
         REPLAY_ALONE,
         TWO_WORDS,
         FIRST_READ_FAILS,
         FIRST_WRITE_FAILS,
     ];
-    for row in &rows {
-        gives(&rt, rt.alloc(), row)?;
-    }
-    Ok(())
+    every(&rt, rt.alloc(), &rows)
 }

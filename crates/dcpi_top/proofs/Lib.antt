@@ -1,2 +1,12 @@
+-- Lemmas of the top call.
+pub mod Forms
+pub mod Heading
+pub mod KnownLaws
+pub mod Listed
+pub mod Passing
 pub mod Promises
+pub mod Replayed
+pub mod Sound
+pub mod Stopping
 pub mod Telling
+pub mod Unprinted

@@ -1,154 +1,71 @@
 -- What the top call promises follows from what serving a command says and from the line that was told.
-use Rattle.std.proofs.Common.{◌≡◌, ℕ, List, ◌≤◌, ◌⊎◌, inl, inr, refl, arith}
+use Rattle.std.proofs.Common.{◌≡◌, ◌≢◌, ◌≤◌, ◌⊎◌, inl, inr, ℕ, List, refl, subst, arith}
 use Rattle.std.specs.declared.option.Option.{Option}
 use Rattle.std.specs.declared.option.Option.TheVariants.{Some, None}
-use Rattle.std.specs.declared.result.Result.{Result}
-use Rattle.std.specs.declared.result.Result.TheVariants.{Ok, Err}
-use Rattle.std.specs.Option.{IfSome}
-use Rattle.trace_model.specs.declared.reasons.TraceWhy.{TraceWhy}
-use Rattle.trace_model.specs.Grammar.{FirstBad}
-use Rattle.trace_laws.specs.Readings.{IsTrace, IsRefused}
+use Rattle.dcpi_top.specs.declared.commands.Command.{Command}
 use Rattle.dcpi_top.specs.declared.refusals.Refusal.{Refusal}
-use Rattle.dcpi_top.specs.declared.refusals.Refusal.TheVariants.{Usage, TraceBad, ReadFault, WriteFault, Memory}
-use Rattle.dcpi_top.specs.Answers.{Answers, IsToldTrace, IsToldRefused, NoCountFalls}
+use Rattle.dcpi_top.specs.declared.refusals.Refusal.TheVariants.{Usage, TraceBad, ReadFault, StoreFault, WriteFault, Memory, DatabaseBad, Full, SymbolBad, NoSuchEpoch}
 use Rattle.dcpi_top.specs.Commands.{command_of}
-use Rattle.dcpi_top.specs.Messages.{Tells}
-use Rattle.dcpi_top.specs.Plains.{IsPlainTextOf}
-use Rattle.dcpi_top.specs.Refusals.{status_of, AreCommand, IsFirstBadIn, Prints, Serves, Refuses}
-use Rattle.dcpi_top.specs.Streams.{Stream, KeepsCount, HasFailed, IsUntouched}
+use Rattle.dcpi_top.specs.Messages.{TellsLine}
+use Rattle.dcpi_top.specs.Refusals.{status_in, status_of}
+use Rattle.dcpi_top.specs.Streams.{Stream, Disk, HasFailed}
+use Rattle.dcpi_top.specs.Causes.{IsCause}
+use Rattle.dcpi_top.specs.Owing.{IsOwed, IsRefusedAs, IsSound}
+use Rattle.dcpi_top.specs.Answers.{Answers, Call, Serves, ServesCall}
+use Rattle.dcpi_top.proofs.KnownLaws.{Known}
+use Rattle.dcpi_top.proofs.Sound.{served_soundly}
 
--- that no bytes are both a trace and refused
-abbrev pub NotBoth : Type 0
-NotBoth = (bytes : List ℕ) → IsTrace bytes → IsRefused bytes → ⊥
+-- only words that are no command are refused as such
+not_usage : (command : Command) (input : Stream) (disk : Disk) (refusal : Refusal) → IsCause command input disk refusal → status_of refusal ≡ 1 → ⊥
+not_usage command input disk Usage cause is = cause
+not_usage command input disk (TraceBad line why) cause is = absurd (cc)
+not_usage command input disk ReadFault cause is = absurd (cc)
+not_usage command input disk StoreFault cause is = absurd (cc)
+not_usage command input disk WriteFault cause is = absurd (cc)
+not_usage command input disk Memory cause is = absurd (cc)
+not_usage command input disk (DatabaseBad file) cause is = absurd (cc)
+not_usage command input disk (Full what held added) cause is = absurd (cc)
+not_usage command input disk (SymbolBad line why) cause is = absurd (cc)
+not_usage command input disk (NoSuchEpoch epoch last) cause is = absurd (cc)
 
--- a trace has no first bad line
-no_first_bad : NotBoth → (bytes : Option (List ℕ)) (line : ℕ) (why : TraceWhy) → IfSome bytes (λ known. FirstBad known line why) → IsToldTrace bytes → ⊥
-no_first_bad law None line why bad good = good
-no_first_bad law (Some bytes) line why bad good = law bytes good (line, why, bad)
+not_one : (n : ℕ) → n ≡ 5 → n ≡ 1 → ⊥
+not_one n five one = absurd (omega (arith, five, one))
 
--- a refused input has no listing
-no_listing : NotBoth → (bytes : Option (List ℕ)) (text : List ℕ) → IsPlainTextOf bytes text → IsToldRefused bytes → ⊥
-no_listing law None text listed bad = bad
-no_listing law (Some bytes) text listed bad = law bytes (listed.recording, listed.reads) bad
+known_words : (command : Command) (input : Stream) (disk : Disk) (output : Stream) (refusal : Option Refusal) → Serves command input disk output refusal
+    → status_in refusal ≡ 1 → ⊥
+known_words command input disk output None serves is = absurd (cc)
+known_words command input disk output (Some refusal) (inl refused) is = not_usage command input disk refusal refused.0 is
+known_words command input disk output (Some refusal) (inr failed) is = not_one (status_of refusal) (λ i. status_of (failed.0 i)) is
 
--- a command that was served gives 0
-pub served : NotBoth → (words : List (List ℕ)) (input output errors : Stream) → Serves {T = ℕ} words input output (Ok 0)
-    → IsUntouched errors → Answers words input output errors 0
-served law words input output errors s quiet = record {
-  statuses = inl refl;
-  usage = ((λ e. absurd (cc)), (λ none. absurd (s.0 none)));
-  unread = λ e. absurd (cc);
-  whole = λ _. s.1;
-  done = λ _. s.3;
-  quiet = λ _. quiet;
-  bad = λ e. absurd (cc);
-  read = λ e. absurd (cc);
-  read_kept = λ _. s.2;
-  write = λ e. absurd (cc);
-  write_kept = λ _. s.4;
-  counts = record { reads = omega (arith, s.2); writes = omega (arith, s.4); lines = omega (arith, quiet.faults) };
-  partial = λ e. absurd (cc);
-  silent = λ other. absurd (other refl);
-  message = λ other. absurd (other refl);
-  refuses = λ bad form read. absurd (no_listing law input.old s.3.text s.3.is_text bad);
-  complete = λ good form read write. inl refl;
-}
+usage_one : (named : Option Command) (input : Stream) (disk : Disk) (output : Stream) (refusal : Option Refusal) → ServesCall named input disk output refusal
+    → status_in refusal ≡ 1 → named ≡ None
+usage_one None input disk output refusal serves is = refl
+usage_one (Some command) input disk output refusal serves is = absurd (known_words command input disk output refusal serves.1 is)
 
--- a command that was refused gives the status of its refusal, with its line
-pub refused : NotBoth → (words : List (List ℕ)) (input output errors : Stream) (refusal : Refusal) → Refuses words input output refusal
-    → Tells refusal errors → errors.faults_before ≤ errors.faults_after → Answers words input output errors (status_of refusal)
-refused law words input output errors Usage (none, unread, unwritten) told later = record {
-  statuses = inr (inl refl);
-  usage = ((λ _. none), (λ _. refl));
-  unread = λ _. unread;
-  whole = λ e. absurd (cc);
-  done = λ e. absurd (cc);
-  quiet = λ e. absurd (cc);
-  bad = λ e. absurd (cc);
-  read = λ e. absurd (cc);
-  read_kept = λ _. unread.faults;
-  write = λ e. absurd (cc);
-  write_kept = λ _. unwritten.faults;
-  counts = record { reads = omega (arith, unread.faults); writes = omega (arith, unwritten.faults); lines = later };
-  partial = λ e. absurd (cc);
-  silent = λ _ _. unwritten;
-  message = λ _. (Usage, refl, told);
-  refuses = λ bad form read. absurd (form none);
-  complete = λ good form read write. absurd (form none);
-}
-refused law words input output errors (TraceBad line why) (form, first, kept, unwritten) told later = record {
-  statuses = inr (inr (inl refl));
-  usage = ((λ e. absurd (cc)), (λ none. absurd (form none)));
-  unread = λ e. absurd (cc);
-  whole = λ e. absurd (cc);
-  done = λ e. absurd (cc);
-  quiet = λ e. absurd (cc);
-  bad = λ _. (line, why, first, told);
-  read = λ e. absurd (cc);
-  read_kept = λ _. kept;
-  write = λ e. absurd (cc);
-  write_kept = λ _. unwritten.faults;
-  counts = record { reads = omega (arith, kept); writes = omega (arith, unwritten.faults); lines = later };
-  partial = λ e. absurd (cc);
-  silent = λ _ _. unwritten;
-  message = λ _. (TraceBad line why, refl, told);
-  refuses = λ bad form read. inl refl;
-  complete = λ good form read write. absurd (no_first_bad law input.old line why first good);
-}
-refused law words input output errors ReadFault (form, failed, unwritten) told later = record {
-  statuses = inr (inr (inr (inl refl)));
-  usage = ((λ e. absurd (cc)), (λ none. absurd (form none)));
-  unread = λ e. absurd (cc);
-  whole = λ e. absurd (cc);
-  done = λ e. absurd (cc);
-  quiet = λ e. absurd (cc);
-  bad = λ e. absurd (cc);
-  read = λ _. failed;
-  read_kept = λ other. absurd (other refl);
-  write = λ e. absurd (cc);
-  write_kept = λ _. unwritten.faults;
-  counts = record { reads = failed.later; writes = omega (arith, unwritten.faults); lines = later };
-  partial = λ e. absurd (cc);
-  silent = λ _ _. unwritten;
-  message = λ _. (ReadFault, refl, told);
-  refuses = λ bad form read. absurd (read failed);
-  complete = λ good form read write. absurd (read failed);
-}
-refused law words input output errors WriteFault (form, kept, prints, failed) told later = record {
-  statuses = inr (inr (inr (inr (inl refl))));
-  usage = ((λ e. absurd (cc)), (λ none. absurd (form none)));
-  unread = λ e. absurd (cc);
-  whole = λ e. absurd (cc);
-  done = λ e. absurd (cc);
-  quiet = λ e. absurd (cc);
-  bad = λ e. absurd (cc);
-  read = λ e. absurd (cc);
-  read_kept = λ _. kept;
-  write = λ _. failed;
-  write_kept = λ other. absurd (other refl);
-  counts = record { reads = omega (arith, kept); writes = failed.later; lines = later };
-  partial = λ _. prints;
-  silent = λ _ other. absurd (other refl);
-  message = λ _. (WriteFault, refl, told);
-  refuses = λ bad form read. absurd (no_listing law input.old prints.text prints.is_text bad);
-  complete = λ good form read write. absurd (write failed);
-}
-refused law words input output errors Memory (form, kept, unwritten) told later = record {
-  statuses = inr (inr (inr (inr (inr refl))));
-  usage = ((λ e. absurd (cc)), (λ none. absurd (form none)));
-  unread = λ e. absurd (cc);
-  whole = λ e. absurd (cc);
-  done = λ e. absurd (cc);
-  quiet = λ e. absurd (cc);
-  bad = λ e. absurd (cc);
-  read = λ e. absurd (cc);
-  read_kept = λ _. kept;
-  write = λ e. absurd (cc);
-  write_kept = λ _. unwritten.faults;
-  counts = record { reads = omega (arith, kept); writes = omega (arith, unwritten.faults); lines = later };
-  partial = λ e. absurd (cc);
-  silent = λ _ _. unwritten;
-  message = λ _. (Memory, refl, told);
-  refuses = λ bad form read. inr refl;
-  complete = λ good form read write. inr refl;
+usage_two : (named : Option Command) (input : Stream) (disk : Disk) (output : Stream) (refusal : Option Refusal) → ServesCall named input disk output refusal
+    → named ≡ None → status_in refusal ≡ 1
+usage_two None input disk output refusal serves is = λ i. status_in (serves.0 i)
+usage_two (Some command) input disk output refusal serves is = absurd (cc)
+
+-- what serving a command says of it
+pub of_command : (named : Option Command) (command : Command) (input : Stream) (disk : Disk) (output : Stream) (refusal : Option Refusal)
+    → ServesCall named input disk output refusal → named ≡ Some command → Serves command input disk output refusal
+of_command named command input disk output refusal serves is =
+    let of : ServesCall (Some command) input disk output refusal = subst (λ o. ServesCall o input disk output refusal) is serves in of.1
+
+-- the promises
+pub answered : Known → (call : Call) (refusal : Option Refusal) → ServesCall (command_of call.words) call.input call.disk call.output refusal
+    → TellsLine refusal call.errors → call.errors.faults_before ≤ call.errors.faults_after → Answers call (status_in refusal)
+answered laws call refusal serves told later = record {
+  refusal = refusal;
+  is_status = refl;
+  means = serves;
+  line = told;
+  later = later;
+  usage = (
+    usage_one (command_of call.words) call.input call.disk call.output refusal serves,
+    usage_two (command_of call.words) call.input call.disk call.output refusal serves,
+  );
+  complete = λ command is sound read store write. served_soundly laws command call.input call.disk call.output refusal
+      (of_command (command_of call.words) command call.input call.disk call.output refusal serves is) sound read store write;
 }

@@ -1,7 +1,6 @@
 -- The text that `plain` owes.
 use Rattle.std.specs.Prelude.{◌≡◌, ℕ, List, IfSome}
 use Rattle.std.specs.declared.option.Option.{Option}
-use Rattle.std.specs.declared.result.Result.{Result}
 use Rattle.trace_model.specs.Recording.{Recording, Reads}
 use Rattle.trace_model.specs.Counting.{Row, AreCountsOf, rows_text, spots_in}
 

@@ -1,28 +1,40 @@
--- Why a command gives no text, and what it leaves then.
-use Rattle.std.specs.Prelude.{◌≡◌, ◌≢◌, ℕ, List, IfSome}
+-- Why a command gives no text, and the status of each reason.
+use Rattle.std.specs.Prelude.{◌≡◌, ℕ}
 use Rattle.std.specs.declared.option.Option.{Option}
 use Rattle.std.specs.declared.option.Option.TheVariants.{Some, None}
 use Rattle.std.specs.declared.result.Result.{Result}
 use Rattle.std.specs.declared.result.Result.TheVariants.{Ok, Err}
-use Rattle.std.specs.Io.KnownBytes.{IsAtEnd, Appends}
-use Rattle.outside_io.specs.Prefix.{AppendsPrefix}
-use Rattle.trace_model.specs.declared.reasons.TraceWhy.{TraceWhy}
-use Rattle.trace_model.specs.Grammar.{FirstBad}
 use Rattle.trace_text.specs.declared.refusals.TraceRefusal.{TraceRefusal}
 use Rattle.trace_text.specs.declared.refusals.TraceRefusal.TheVariants as traces
+use Rattle.symbol_ranges.specs.declared.refusals.SymbolRefusal.{SymbolRefusal}
+use Rattle.symbol_ranges.specs.declared.refusals.SymbolRefusal.TheVariants as symbols
+use Rattle.database_state.specs.declared.faults.DbFault.{DbFault}
+use Rattle.database_state.specs.declared.faults.DbFault.TheVariants as faults
 use Rattle.dcpi_top.specs.declared.refusals.Refusal.{Refusal}
-use Rattle.dcpi_top.specs.declared.refusals.Refusal.TheVariants.{Usage, TraceBad, ReadFault, WriteFault, Memory}
-use Rattle.dcpi_top.specs.Commands.{command_of}
-use Rattle.dcpi_top.specs.Plains.{IsPlainTextOf}
-use Rattle.dcpi_top.specs.Streams.{Stream, KeepsCount, HasFailed, IsUntouched}
+use Rattle.dcpi_top.specs.declared.refusals.Refusal.TheVariants.{Usage, TraceBad, ReadFault, StoreFault, WriteFault, Memory, DatabaseBad, Full, SymbolBad, NoSuchEpoch}
 
 -- the status of a refusal
 abbrev pub status_of : Refusal → ℕ
 status_of Usage = 1
 status_of (TraceBad line why) = 2
 status_of ReadFault = 3
+status_of StoreFault = 4
 status_of WriteFault = 5
 status_of Memory = 6
+status_of (DatabaseBad file) = 7
+status_of (Full what held added) = 8
+status_of (SymbolBad line why) = 9
+status_of (NoSuchEpoch epoch last) = 10
+
+-- the status where this was refused, or nothing
+abbrev pub status_in : Option Refusal → ℕ
+status_in None = 0
+status_in (Some refusal) = status_of refusal
+
+-- what a result refuses
+abbrev pub refused : {T : Type 0} → Result T Refusal → Option Refusal
+refused (Ok value) = None
+refused (Err refusal) = Some refusal
 
 -- a refusal of a trace is passed on as it is
 abbrev pub IsOfTrace : TraceRefusal → Refusal → Type 0
@@ -30,54 +42,15 @@ IsOfTrace (traces.Bad line why) refusal = refusal ≡ TraceBad line why
 IsOfTrace traces.ReadFault refusal = refusal ≡ ReadFault
 IsOfTrace traces.Memory refusal = refusal ≡ Memory
 
--- the words have a form of a command
-abbrev pub AreCommand : List (List ℕ) → Type 0
-AreCommand words = command_of words ≢ None
+-- so is one of a symbol list
+abbrev pub IsOfSymbols : SymbolRefusal → Refusal → Type 0
+IsOfSymbols (symbols.Bad line why) refusal = refusal ≡ SymbolBad line why
+IsOfSymbols symbols.ReadFault refusal = refusal ≡ ReadFault
+IsOfSymbols symbols.Memory refusal = refusal ≡ Memory
 
--- the line is the first bad one of the input, where its bytes are told, and this is the first reason on it
-abbrev pub IsFirstBadIn : Stream → ℕ → TraceWhy → Type 0
-IsFirstBadIn input line why = IfSome input.old (λ bytes. FirstBad bytes line why)
-
--- the whole listing of the input was written
-pub record Prints (input output : Stream) : Type 0 where
-  pub text : List ℕ
-  pub is_text : IsPlainTextOf input.old text
-  pub printed : Appends output.old output.new text
-
--- a prefix of the listing of the input was written
-pub record PrintsPrefix (input output : Stream) : Type 0 where
-  pub text : List ℕ
-  pub is_text : IsPlainTextOf input.old text
-  pub printed : AppendsPrefix output.old output.new text
-
--- the input was read to its end, and its listing is this text
-pub record IsListing (input : Stream) (text : List ℕ) : Type 0 where
-  pub is_text : IsPlainTextOf input.old text
-  pub whole : IsAtEnd input.new
-  pub counted : KeepsCount input
-
--- what a refusal says of the words and the input, while no text was made
-abbrev pub RefusesText : List (List ℕ) → Stream → Refusal → Type 0
-RefusesText words input Usage = (command_of words ≡ None) × IsUntouched input
-RefusesText words input (TraceBad line why) = AreCommand words × IsFirstBadIn input line why × KeepsCount input
-RefusesText words input ReadFault = AreCommand words × HasFailed input
-RefusesText words input WriteFault = ⊥
-RefusesText words input Memory = AreCommand words × KeepsCount input
-
--- the text of a command, or why there is none
-abbrev pub GivesText : {T : Type 0} → (T → List ℕ) → List (List ℕ) → Stream → Result T Refusal → Type 0
-GivesText bytes words input (Ok text) = AreCommand words × IsListing input (bytes text)
-GivesText bytes words input (Err refusal) = RefusesText words input refusal
-
--- what a refusal says of the words, the input and the output
-abbrev pub Refuses : List (List ℕ) → Stream → Stream → Refusal → Type 0
-Refuses words input output Usage = (command_of words ≡ None) × IsUntouched input × IsUntouched output
-Refuses words input output (TraceBad line why) = AreCommand words × IsFirstBadIn input line why × KeepsCount input × IsUntouched output
-Refuses words input output ReadFault = AreCommand words × HasFailed input × IsUntouched output
-Refuses words input output WriteFault = AreCommand words × KeepsCount input × PrintsPrefix input output × HasFailed output
-Refuses words input output Memory = AreCommand words × KeepsCount input × IsUntouched output
-
--- a command was served, or refused
-abbrev pub Serves : {T : Type 0} → List (List ℕ) → Stream → Stream → Result T Refusal → Type 0
-Serves words input output (Ok done) = AreCommand words × IsAtEnd input.new × KeepsCount input × Prints input output × KeepsCount output
-Serves words input output (Err refusal) = Refuses words input output refusal
+-- so is a fault of a database
+abbrev pub IsOfDatabase : DbFault → Refusal → Type 0
+IsOfDatabase faults.StoreFault refusal = refusal ≡ StoreFault
+IsOfDatabase (faults.Bad file) refusal = refusal ≡ DatabaseBad file
+IsOfDatabase (faults.Full what held added) refusal = refusal ≡ Full what held added
+IsOfDatabase faults.Memory refusal = refusal ≡ Memory

@@ -1,34 +1,43 @@
--- A stream outside the program before and after a call.
+-- An object outside the program before and after a call.
 use Rattle.std.specs.Prelude.{◌≡◌, ℕ, ◌≤◌, List}
 use Rattle.std.specs.declared.option.Option.{Option}
 use Rattle.outside_io.specs.Causes.{Rose}
+use Rattle.store_io.specs.Files.{Files}
 
--- its bytes, where it tells them (those left to read, or those written), and its count of faults
-pub record Stream : Type 0 where
-  pub old : Option (List ℕ)
-  pub new : Option (List ℕ)
+-- what it tells, if it tells it, and its count of faults
+pub record Seen (A : Type 0) : Type 0 where
+  pub old : Option A
+  pub new : Option A
   pub faults_before : ℕ
   pub faults_after : ℕ
 
--- the stream that a source or a sink is, by what it tells
-abbrev pub stream : {S : Type 0} → (S → Option (List ℕ)) → (S → ℕ) → S → S → Stream
-stream bytes faults before after = record {
-  old = bytes before;
-  new = bytes after;
+-- a source or a sink: the bytes that are left to read, or those that were written
+abbrev pub Stream : Type 0
+Stream = Seen (List ℕ)
+
+-- a store: its files
+abbrev pub Disk : Type 0
+Disk = Seen Files
+
+-- how an object is seen by what it tells
+abbrev pub seen : {S A : Type 0} → (S → Option A) → (S → ℕ) → S → S → Seen A
+seen tells faults before after = record {
+  old = tells before;
+  new = tells after;
   faults_before = faults before;
   faults_after = faults after;
 }
 
 -- no fault was counted
-abbrev pub KeepsCount : Stream → Type 0
+abbrev pub KeepsCount : {A : Type 0} → Seen A → Type 0
 KeepsCount s = s.faults_after ≡ s.faults_before
 
 -- a fault was counted
-pub record HasFailed (s : Stream) : Type 0 where
+pub record HasFailed {A : Type 0} (s : Seen A) : Type 0 where
   pub later : s.faults_before ≤ s.faults_after
   pub rose : Rose s.faults_before s.faults_after
 
--- nothing was read or written, and no fault was counted
-pub record IsUntouched (s : Stream) : Type 0 where
-  pub bytes : s.new ≡ s.old
+-- it tells what it told before, and no fault was counted
+pub record IsUntouched {A : Type 0} (s : Seen A) : Type 0 where
+  pub same : s.new ≡ s.old
   pub faults : KeepsCount s

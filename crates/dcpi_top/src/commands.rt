@@ -1,29 +1,146 @@
 //! The forms of commands.
-ghost use Rattle.std.specs.Prelude.{◌≡◌, ◌∷◌, [], map, string_bytes};
-ghost use Rattle.dcpi_top.specs.Commands.{command_of};
+ghost use Rattle.std.specs.Prelude.{◌≡◌, map, string_bytes};
+ghost use Rattle.dcpi_top.specs.Commands.{command_alone, command_listing, command_of, command_on, csv_named, epochs_named, listing_named, listing_of};
+
+use dcpiprof_report::Epochs;
+use sample_key::Event;
+use text_num::read_dec;
 
 /// What the words ask for.
 #[derive(Clone, Copy, Debug, PartialEq, Eq)]
 pub enum Command {
     /// Read a trace and print its counts by place.
     Plain,
+    /// Read a trace, replay it into the database and print the summary of the run.
+    Replay,
+    /// List what the database counts by image.
+    ProfImage {
+        /// The epochs that are counted.
+        epochs: Epochs,
+        /// The event that is counted.
+        event: Event,
+        /// Whether the listing is CSV, else text.
+        csv: bool,
+    },
+    /// Read a symbol list, and list what the database counts by procedure.
+    ProfProcedure {
+        /// The epochs that are counted.
+        epochs: Epochs,
+        /// The event that is counted.
+        event: Event,
+        /// Whether the listing is CSV, else text.
+        csv: bool,
+    },
+    /// Print all counts of the database.
+    Cat,
+    /// Print the runs of the database, each with its tally.
+    Runs,
 }
 
-/// The command of the words behind the program's name; `None` where they have no form of a command.
+/// The command of the words behind the program's name; `None` where they have no form of a command. The second word is the
+/// database, and may be any word.
 pub fn words_of(words: &Vec<String>) -> Option<Command>
     ensures { result ≡ command_of (map string_bytes words.now.items) }
 {
     match words.as_slice() {
-        [word] => command_named(word.as_bytes()),
-        _ => None,
+        [] => None,
+        [word] => command_alone(word.as_bytes()),
+        [word, _] => command_on(word.as_bytes()),
+        [_, _, _] => None,
+        [_, _, _, _] => None,
+        [_, _, _, _, _] => None,
+        [word, _, kind, epoch, event, form] => command_listing(
+            word.as_bytes(),
+            kind.as_bytes(),
+            epoch.as_bytes(),
+            event.as_bytes(),
+            form.as_bytes(),
+        ),
+        [_, _, _, _, _, _, _, ..] => None,
     }
 }
 
-fn command_named(word: &[u8]) -> Option<Command>
-    ensures { result ≡ command_of (word.now ∷ []) }
+fn command_alone(word: &[u8]) -> Option<Command>
+    ensures { result ≡ command_alone word.now }
 {
     if word == b"plain".as_slice() {
         Some(Command::Plain)
+    } else {
+        None
+    }
+}
+
+fn command_on(word: &[u8]) -> Option<Command>
+    ensures { result ≡ command_on word.now }
+{
+    if word == b"replay".as_slice() {
+        Some(Command::Replay)
+    } else if word == b"cat".as_slice() {
+        Some(Command::Cat)
+    } else if word == b"runs".as_slice() {
+        Some(Command::Runs)
+    } else {
+        None
+    }
+}
+
+fn command_listing(
+    word: &[u8],
+    kind: &[u8],
+    epoch: &[u8],
+    event: &[u8],
+    form: &[u8],
+) -> Option<Command>
+    ensures { result ≡ command_listing word.now kind.now epoch.now event.now form.now }
+{
+    if word == b"prof".as_slice() {
+        listing_named(kind, epoch, event, form)
+    } else {
+        None
+    }
+}
+
+fn listing_named(kind: &[u8], epoch: &[u8], event: &[u8], form: &[u8]) -> Option<Command>
+    ensures { result ≡ listing_named kind.now epoch.now event.now form.now }
+{
+    let epochs = epochs_named(epoch)?;
+    let event = Event::of_name(event)?;
+    let csv = csv_named(form)?;
+    listing_of(kind, epochs, event, csv)
+}
+
+fn epochs_named(word: &[u8]) -> Option<Epochs>
+    ensures { result ≡ epochs_named word.now }
+{
+    if word == b"all".as_slice() {
+        return Some(Epochs::All);
+    }
+    let epoch = read_dec(word)?;
+    if epoch > u64::from(u32::MAX) {
+        return None;
+    }
+    Some(Epochs::One(epoch as u32))
+}
+
+fn csv_named(word: &[u8]) -> Option<bool>
+    ensures { result ≡ csv_named word.now }
+{
+    if word == b"csv".as_slice() {
+        Some(true)
+    } else if word == b"text".as_slice() {
+        Some(false)
+    } else {
+        None
+    }
+}
+
+fn listing_of(kind: &[u8], epochs: Epochs, event: Event, csv: bool) -> Option<Command>
+    ensures { result ≡ listing_of kind.now epochs event csv }
+{
+    if kind == b"image".as_slice() {
+        Some(Command::ProfImage { epochs, event, csv })
+    } else if kind == b"procedure".as_slice() {
+        Some(Command::ProfProcedure { epochs, event, csv })
     } else {
         None
     }

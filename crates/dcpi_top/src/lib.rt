@@ -4,13 +4,20 @@
 
 mod answering;
 mod commands;
+mod laws;
+mod listings;
 mod messages;
 mod plains;
 mod refusals;
+mod replays;
 
 pub use answering::dcpi_still;
 pub use commands::{Command, words_of};
+pub use database_state::{DbFault, FullWhat};
+pub use dcpiprof_report::Epochs;
 pub use direct_counts::{counts_text, plain_counts};
+pub use messages::tell;
 pub use plains::plain;
 pub use refusals::Refusal;
+pub use symbol_ranges::SymbolWhy;
 pub use trace_text::{TraceRefusal, TraceWhy};

@@ -1,8 +1,12 @@
 //! Why a command writes no whole text: one variant for each status that is not 0.
 ghost use Rattle.std.specs.Prelude.{◌≡◌};
-ghost use Rattle.dcpi_top.specs.Refusals.{IsOfTrace, status_of};
-ghost use Rattle.dcpi_top.specs.declared.refusals.Refusal.TheVariants.{WriteFault};
+ghost use Rattle.dcpi_top.specs.Refusals.{IsOfDatabase, IsOfSymbols, IsOfTrace, status_of};
+ghost use Rattle.dcpi_top.specs.declared.refusals.Refusal.TheVariants.{Memory, WriteFault};
 
+use database_state::{DbFault, FullWhat};
+use std::alloc::AllocError;
+use store_io::FileRef;
+use symbol_ranges::{SymbolRefusal, SymbolWhy};
 use trace_text::{TraceRefusal, TraceWhy};
 
 /// Why a command wrote no whole text. Each variant has a status and a line on the error output.
@@ -19,10 +23,40 @@ pub enum Refusal {
     },
     /// A read of the input failed: status 3.
     ReadFault,
+    /// A call of the store failed: status 4.
+    StoreFault,
     /// A write to the output failed: status 5.
     WriteFault,
     /// No memory was found: status 6.
     Memory,
+    /// A file of the database is missing or not in its format: status 7.
+    DatabaseBad {
+        /// The file.
+        file: FileRef,
+    },
+    /// The database is full: status 8.
+    Full {
+        /// What has no room.
+        what: FullWhat,
+        /// How many images or rows there are, or the count that the place has.
+        held: u64,
+        /// How many images or rows, or how much of a count, were to be added.
+        added: u128,
+    },
+    /// The symbol list is not in the grammar: status 9.
+    SymbolBad {
+        /// The first bad line, counted from 1.
+        line: u64,
+        /// The first reason that applies to it.
+        why: SymbolWhy,
+    },
+    /// The epoch that was asked for is above the last one: status 10.
+    NoSuchEpoch {
+        /// The epoch that was asked for.
+        epoch: u32,
+        /// The last epoch of the database.
+        last: u32,
+    },
 }
 
 impl Refusal {
@@ -34,8 +68,17 @@ impl Refusal {
             Refusal::Usage => 1,
             Refusal::TraceBad { line: _, why: _ } => 2,
             Refusal::ReadFault => 3,
+            Refusal::StoreFault => 4,
             Refusal::WriteFault => 5,
             Refusal::Memory => 6,
+            Refusal::DatabaseBad { file: _ } => 7,
+            Refusal::Full {
+                what: _,
+                held: _,
+                added: _,
+            } => 8,
+            Refusal::SymbolBad { line: _, why: _ } => 9,
+            Refusal::NoSuchEpoch { epoch: _, last: _ } => 10,
         }
     }
 }
@@ -49,6 +92,39 @@ impl From<TraceRefusal> for Refusal {
             TraceRefusal::ReadFault => Refusal::ReadFault,
             TraceRefusal::Memory => Refusal::Memory,
         }
+    }
+}
+
+impl From<SymbolRefusal> for Refusal {
+    ghost from_gives = { IsOfSymbols };
+
+    fn from(refusal: SymbolRefusal) -> Self {
+        match refusal {
+            SymbolRefusal::Bad { line, why } => Refusal::SymbolBad { line, why },
+            SymbolRefusal::ReadFault => Refusal::ReadFault,
+            SymbolRefusal::Memory => Refusal::Memory,
+        }
+    }
+}
+
+impl From<DbFault> for Refusal {
+    ghost from_gives = { IsOfDatabase };
+
+    fn from(fault: DbFault) -> Self {
+        match fault {
+            DbFault::StoreFault => Refusal::StoreFault,
+            DbFault::Bad { file } => Refusal::DatabaseBad { file },
+            DbFault::Full { what, held, added } => Refusal::Full { what, held, added },
+            DbFault::Memory => Refusal::Memory,
+        }
+    }
+}
+
+impl From<AllocError> for Refusal {
+    ghost from_gives = { λ _ refusal. refusal ≡ Memory };
+
+    fn from(_: AllocError) -> Self {
+        Refusal::Memory
     }
 }
 

@@ -1,12 +1,54 @@
-use Rattle.std.proofs.Common.{refl, subst, sym}
-use Rattle.dcpi_top.specs.Answers.{Answers}
-use Rattle.dcpi_top.specs.Streams.{stream}
-use Rattle.dcpi_top.proofs.Promises.{refused, served}
+use Rattle.std.proofs.Common.{map, string_bytes, refl, subst, sym, arith}
+use Rattle.std.specs.declared.option.Option.TheVariants.{Some, None}
+use Rattle.dcpi_top.specs.Answers.{Answers, Call}
+use Rattle.dcpi_top.specs.Streams.{seen}
+use Rattle.dcpi_top.proofs.KnownLaws.{Known}
+use Rattle.dcpi_top.proofs.Promises.{answered}
 use Rattle.dcpi_top.proofs.answering.dcpi_still.Goals as goal
 
-pub returns-in-Ok : goal.returns-in-Ok
-returns-in-Ok g c = served c.one_reading.ensures.not_both _ _ _ (stream g.E.Sink.written g.E.Sink.faults c.args.err.now c.args.err.now) c.in-Ok.ensures (record { bytes = refl; faults = refl })
+pub returns-in-Ok-clause-answers : goal.returns-in-Ok-clause-answers
+returns-in-Ok-clause-answers g c =
+    let call : Call = record {
+      words = map string_bytes c.args.words.now.items;
+      input = seen g.S.Source.left g.S.Source.faults c.args.source.now c.serve.new.source;
+      disk = seen g.D.Store.files g.D.Store.faults c.args.store.now c.serve.new.store;
+      output = seen g.W.Sink.written g.W.Sink.faults c.args.out.now c.serve.new.out;
+      errors = seen g.E.Sink.written g.E.Sink.faults c.args.err.now c.args.err.now;
+    } in
+    let laws : Known = record {
+      not_both = c.laws.ensures.not_both;
+      one_trace = c.laws.ensures.one_trace;
+      one_refusal = c.laws.ensures.one_refusal;
+      no_list = c.laws.ensures.no_list;
+      one_symbol_refusal = c.laws.ensures.one_symbol_refusal;
+      one_head = c.laws.ensures.one_head;
+      grown = c.laws.ensures.grown;
+      next_head = c.laws.ensures.next_head;
+      first_heads = c.laws.ensures.first_heads;
+      no_fault = c.laws.ensures.no_fault;
+    } in
+    answered laws call None c.in-Ok.ensures.serves (record { same = refl; faults = refl }) (omega arith)
 
-pub returns-in-Err : goal.returns-in-Err
-returns-in-Err g c = subst (Answers _ _ _ _) (sym c.status.ensures)
-    (refused c.one_reading.ensures.not_both _ _ _ _ c.in-Err.refusal c.in-Err.ensures c.tell.ensures.told c.tell.ensures.counts)
+pub returns-in-Err-clause-answers : goal.returns-in-Err-clause-answers
+returns-in-Err-clause-answers g c =
+    let call : Call = record {
+      words = map string_bytes c.args.words.now.items;
+      input = seen g.S.Source.left g.S.Source.faults c.args.source.now c.serve.new.source;
+      disk = seen g.D.Store.files g.D.Store.faults c.args.store.now c.serve.new.store;
+      output = seen g.W.Sink.written g.W.Sink.faults c.args.out.now c.serve.new.out;
+      errors = seen g.E.Sink.written g.E.Sink.faults c.args.err.now c.tell.new.err;
+    } in
+    let laws : Known = record {
+      not_both = c.laws.ensures.not_both;
+      one_trace = c.laws.ensures.one_trace;
+      one_refusal = c.laws.ensures.one_refusal;
+      no_list = c.laws.ensures.no_list;
+      one_symbol_refusal = c.laws.ensures.one_symbol_refusal;
+      one_head = c.laws.ensures.one_head;
+      grown = c.laws.ensures.grown;
+      next_head = c.laws.ensures.next_head;
+      first_heads = c.laws.ensures.first_heads;
+      no_fault = c.laws.ensures.no_fault;
+    } in
+    subst (Answers call) (sym c.status.ensures)
+    (answered laws call (Some c.in-Err.refusal) c.in-Err.ensures.serves c.tell.ensures.told c.tell.ensures.counts)

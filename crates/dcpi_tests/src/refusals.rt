@@ -1,0 +1,210 @@
+//! What is refused with a database, and which refusal comes first where two are due.
+use crate::listings::EMPTY;
+use crate::replays::REPLAYED;
+use crate::rows::{Row, gives, gives_all, names_of, put_files, sound_store};
+use crate::traces::{BOUNDARY, FOLD, TRUNCATED, UNALIGNED};
+use std::test::Fail;
+
+const NO_MULTIPLE: Row = Row {
+    input: UNALIGNED,
+    status: 2,
+    out: b"",
+    err: b"dcpi: trace line 2: Unaligned\n",
+    ..REPLAYED
+};
+
+const CUT: Row = Row {
+    input: TRUNCATED,
+    err: b"dcpi: trace line 2: NoEnd\n",
+    ..NO_MULTIPLE
+};
+
+const FIRST_READ_FAILS: Row = Row {
+    read_fails: &[1],
+    status: 3,
+    out: b"",
+    err: b"dcpi: read fault\n",
+    ..REPLAYED
+};
+
+const FIRST_WRITE_FAILS: Row = Row {
+    write_fails: &[1],
+    status: 5,
+    out: b"",
+    err: b"dcpi: write fault\n",
+    ..REPLAYED
+};
+
+// The run is in the database though its summary was not written.
+const LISTED: Row = Row {
+    words: &["prof", "db", "image", "0", "cycles", "csv"],
+    input: b"",
+    out: b"count,percent,cumulative,image\n3,100.00,100.00,/bin/app\n",
+    ..REPLAYED
+};
+
+const NO_WORDS: Row = Row {
+    words: &[],
+    status: 1,
+    out: b"",
+    err: b"dcpi: usage\n",
+    ..REPLAYED
+};
+
+const REPLAY_ALONE: Row = Row {
+    words: &["replay"],
+    ..NO_WORDS
+};
+
+const TOO_MANY: Row = Row {
+    words: &["replay", "db", "db"],
+    ..NO_WORDS
+};
+
+const PADDED_EPOCH: Row = Row {
+    words: &["prof", "db", "image", "01", "cycles", "text"],
+    ..NO_WORDS
+};
+
+const GREAT_EPOCH: Row = Row {
+    words: &["prof", "db", "image", "4294967296", "cycles", "text"],
+    ..NO_WORDS
+};
+
+const NO_EVENT: Row = Row {
+    words: &["prof", "db", "image", "all", "stalls", "text"],
+    ..NO_WORDS
+};
+
+const NO_FORM: Row = Row {
+    words: &["prof", "db", "image", "all", "cycles", "html"],
+    ..NO_WORDS
+};
+
+const NO_KIND: Row = Row {
+    words: &["prof", "db", "line", "all", "cycles", "text"],
+    ..NO_WORDS
+};
+
+const RUN: Row = Row {
+    words: &["run", "db", "--pace", "free"],
+    ..NO_WORDS
+};
+
+// The head is missing.
+const HEADLESS: Row = Row {
+    words: &["prof", "db", "image", "all", "cycles", "text"],
+    input: b"",
+    status: 7,
+    out: b"",
+    err: b"dcpi: database file head.1 is bad\n",
+    ..REPLAYED
+};
+
+const HEADLESS_REPLAY: Row = Row {
+    words: &["replay", "db"],
+    input: FOLD,
+    ..HEADLESS
+};
+
+// The head comes before the trace, and words before the head.
+const HEADLESS_AND_BAD_TRACE: Row = Row {
+    input: UNALIGNED,
+    ..HEADLESS_REPLAY
+};
+
+const HEADLESS_AND_NO_READ: Row = Row {
+    read_fails: &[1],
+    ..HEADLESS_REPLAY
+};
+
+#[test]
+fn refused_before_a_run(rt: HostRuntime) -> Result<(), Fail> {
+    let alloc = rt.alloc();
+    let mut store = sound_store(alloc);
+    for row in &[NO_MULTIPLE, CUT, FIRST_READ_FAILS] {
+        gives(&rt, alloc, row, &mut store)?;
+    }
+    assert_eq!(rt; names_of(alloc, &mut store)?.as_slice(), b"".as_slice());
+    Ok(())
+}
+
+#[test]
+fn refused_words(rt: HostRuntime) -> Result<(), Fail> {
+    let rows = [
+        NO_WORDS,
+        REPLAY_ALONE,
+        TOO_MANY,
+        PADDED_EPOCH,
+        GREAT_EPOCH,
+        NO_EVENT,
+        NO_FORM,
+        NO_KIND,
+        RUN,
+    ];
+    gives_all(&rt, rt.alloc(), &rows)
+}
+
+#[test]
+fn a_write_fails_behind_the_run(rt: HostRuntime) -> Result<(), Fail> {
+    gives_all(&rt, rt.alloc(), &[FIRST_WRITE_FAILS, LISTED])
+}
+
+#[test]
+fn a_missing_head(rt: HostRuntime) -> Result<(), Fail> {
+    let alloc = rt.alloc();
+    let mut store = sound_store(alloc);
+    put_files(&rt, alloc, &mut store, &[("seal.1", b"")])?;
+    let rows = [
+        HEADLESS,
+        HEADLESS_REPLAY,
+        HEADLESS_AND_BAD_TRACE,
+        HEADLESS_AND_NO_READ,
+        NO_WORDS,
+    ];
+    for row in &rows {
+        gives(&rt, alloc, row, &mut store)?;
+    }
+    Ok(())
+}
+
+#[test]
+fn a_seal_of_another_name(rt: HostRuntime) -> Result<(), Fail> {
+    let alloc = rt.alloc();
+    let mut store = sound_store(alloc);
+    put_files(&rt, alloc, &mut store, &[("seal.01", b"")])?;
+    gives(&rt, alloc, &EMPTY, &mut store)
+}
+
+// A profile is bad: only what reads it is refused.
+const BAD_PROFILE: Row = Row {
+    err: b"dcpi: database file p.0.0.0.1 is bad\n",
+    ..HEADLESS
+};
+
+const BAD_PROFILE_REPLAY: Row = Row {
+    err: b"dcpi: database file p.0.0.0.1 is bad\n",
+    ..HEADLESS_REPLAY
+};
+
+const OTHER_EVENT: Row = Row {
+    input: BOUNDARY,
+    out: b"run 2\nc 0 imiss taken 2 known 1 unknown 1 lost 0\nt 0 folded 0 placed 2 evicted 0 spilt 0 direct 0\ntotal taken 2 known 1 unknown 1 lost 0\n",
+    ..REPLAYED
+};
+
+#[test]
+fn a_bad_profile(rt: HostRuntime) -> Result<(), Fail> {
+    let alloc = rt.alloc();
+    let mut store = sound_store(alloc);
+    gives(&rt, alloc, &REPLAYED, &mut store)?;
+    put_files(
+        &rt,
+        alloc,
+        &mut store,
+        &[("p.0.0.0.1", b"\x01\x01\x02\x03\x00")],
+    )?;
+    gives(&rt, alloc, &BAD_PROFILE, &mut store)?;
+    gives(&rt, alloc, &BAD_PROFILE_REPLAY, &mut store)?;
+    gives(&rt, alloc, &OTHER_EVENT, &mut store)
+}
