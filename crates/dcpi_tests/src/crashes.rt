@@ -1,15 +1,15 @@
 //! A call of the store fails in the midst of a replay: what it answers, and what the database is afterwards.
-use crate::replays::{AT_BOUNDARY, REPLAYED, TWO_PARTS, WORKED};
+use crate::replays::{AT_BOUNDARY, COUNTED, RUNS, TWO_PARTS, WORKED};
 use crate::rows::{Row, failing_store, gives};
 use std::alloc::Global;
 use std::process::Abort;
 use std::test::Fail;
 
-const NOTHING: &[u8] = b"count,percent,cumulative,image\n";
+const NOTHING: &[u8] = b"";
 
-const FIRST: &[u8] = b"count,percent,cumulative,image\n1,100.00,100.00,A\n";
+const FIRST: &[u8] = b"k 0 A cycles 0 1\n";
 
-const BOTH: &[u8] = b"count,percent,cumulative,image\n2,100.00,100.00,A\n";
+const BOTH: &[u8] = b"k 0 A cycles 0 1\nk 1 A cycles 0 1\n";
 
 /// The call of the store before the writes: the names are asked for.
 const BEFORE_WRITES: u64 = 1;
@@ -32,10 +32,8 @@ fn stops(
     };
     gives(rt, alloc, &stopped, &mut store)?;
     let after = Row {
-        words: &["prof", "db", "image", "all", "cycles", "csv"],
-        input: b"",
         out: listed,
-        ..REPLAYED
+        ..COUNTED
     };
     gives(rt, alloc, &after, &mut store)
 }
@@ -89,10 +87,8 @@ fn each_call_of_the_store_fails(rt: HostRuntime) -> Result<(), Fail> {
 }
 
 const LISTED: Row = Row {
-    words: &["prof", "db", "image", "all", "imiss", "csv"],
-    input: b"",
-    out: b"count,percent,cumulative,image\n1,50.00,50.00,A\n1,50.00,100.00,(unknown profile)\n",
-    ..REPLAYED
+    out: b"k 0 A imiss ffc 1\nu 0 imiss 11000 1\n",
+    ..COUNTED
 };
 
 // The third write is the part of the run.
@@ -106,7 +102,7 @@ fn replayed_again_after_a_fault(rt: HostRuntime) -> Result<(), Fail> {
         err: b"dcpi: store fault\n",
         ..AT_BOUNDARY
     };
-    for row in &[stopped, AT_BOUNDARY, LISTED] {
+    for row in &[stopped, COUNTED, AT_BOUNDARY, LISTED] {
         gives(&rt, alloc, row, &mut store)?;
     }
     Ok(())
@@ -128,7 +124,15 @@ fn a_cut_run(rt: HostRuntime) -> Result<(), Fail> {
         err: b"dcpi: store fault\n",
         ..TWO_PARTS
     };
-    for row in &[stopped, SECOND_RUN] {
+    let cut = Row {
+        out: b"run 1 parts 1 cut\nc 0 cycles taken 1 known 1 unknown 0 lost 0\n",
+        ..RUNS
+    };
+    let first = Row {
+        out: FIRST,
+        ..COUNTED
+    };
+    for row in &[stopped, first, cut, SECOND_RUN] {
         gives(&rt, alloc, row, &mut store)?;
     }
     Ok(())

@@ -1,6 +1,8 @@
 //! The command `plain`, and words that are no command.
 use crate::rows::{Row, gives, names_of, sound_store};
-use crate::traces::{BOUNDARY, FOLD, MAP_CHANGED, NOTHING, STRANGER, TRUNCATED, TWO_EPOCHS, UNALIGNED};
+use crate::traces::{
+    BOUNDARY, FOLD, MAP_CHANGED, NOTHING, STRANGER, TRUNCATED, TWO_EPOCHS, UNALIGNED,
+};
 use std::alloc::Global;
 use std::process::Abort;
 use std::test::Fail;

@@ -1,6 +1,6 @@
 //! What is refused with a database, and which refusal comes first where two are due.
 use crate::listings::EMPTY;
-use crate::replays::REPLAYED;
+use crate::replays::{COUNTED, REPLAYED, RUNS};
 use crate::rows::{Row, gives, gives_all, names_of, put_files, sound_store};
 use crate::traces::{BOUNDARY, FOLD, TRUNCATED, UNALIGNED};
 use std::test::Fail;
@@ -37,10 +37,8 @@ const FIRST_WRITE_FAILS: Row = Row {
 
 // The run is in the database though its summary was not written.
 const LISTED: Row = Row {
-    words: &["prof", "db", "image", "0", "cycles", "csv"],
-    input: b"",
-    out: b"count,percent,cumulative,image\n3,100.00,100.00,/bin/app\n",
-    ..REPLAYED
+    out: b"k 0 /bin/app cycles 8 3\n",
+    ..COUNTED
 };
 
 const NO_WORDS: Row = Row {
@@ -101,6 +99,16 @@ const HEADLESS: Row = Row {
     ..REPLAYED
 };
 
+const HEADLESS_COUNTS: Row = Row {
+    words: &["cat", "db"],
+    ..HEADLESS
+};
+
+const HEADLESS_RUNS: Row = Row {
+    words: &["runs", "db"],
+    ..HEADLESS
+};
+
 const HEADLESS_REPLAY: Row = Row {
     words: &["replay", "db"],
     input: FOLD,
@@ -157,6 +165,8 @@ fn a_missing_head(rt: HostRuntime) -> Result<(), Fail> {
     put_files(&rt, alloc, &mut store, &[("seal.1", b"")])?;
     let rows = [
         HEADLESS,
+        HEADLESS_COUNTS,
+        HEADLESS_RUNS,
         HEADLESS_REPLAY,
         HEADLESS_AND_BAD_TRACE,
         HEADLESS_AND_NO_READ,
@@ -173,13 +183,24 @@ fn a_seal_of_another_name(rt: HostRuntime) -> Result<(), Fail> {
     let alloc = rt.alloc();
     let mut store = sound_store(alloc);
     put_files(&rt, alloc, &mut store, &[("seal.01", b"")])?;
-    gives(&rt, alloc, &EMPTY, &mut store)
+    gives(&rt, alloc, &EMPTY, &mut store)?;
+    gives(&rt, alloc, &COUNTED, &mut store)
 }
 
 // A profile is bad: only what reads it is refused.
 const BAD_PROFILE: Row = Row {
     err: b"dcpi: database file p.0.0.0.1 is bad\n",
     ..HEADLESS
+};
+
+const BAD_PROFILE_COUNTS: Row = Row {
+    err: b"dcpi: database file p.0.0.0.1 is bad\n",
+    ..HEADLESS_COUNTS
+};
+
+const RUN_OF_FOLD: Row = Row {
+    out: b"run 1 parts 1 whole\nc 0 cycles taken 3 known 3 unknown 0 lost 0\n",
+    ..RUNS
 };
 
 const BAD_PROFILE_REPLAY: Row = Row {
@@ -205,6 +226,49 @@ fn a_bad_profile(rt: HostRuntime) -> Result<(), Fail> {
         &[("p.0.0.0.1", b"\x01\x01\x02\x03\x00")],
     )?;
     gives(&rt, alloc, &BAD_PROFILE, &mut store)?;
+    gives(&rt, alloc, &BAD_PROFILE_COUNTS, &mut store)?;
+    gives(&rt, alloc, &RUN_OF_FOLD, &mut store)?;
     gives(&rt, alloc, &BAD_PROFILE_REPLAY, &mut store)?;
     gives(&rt, alloc, &OTHER_EVENT, &mut store)
+}
+
+// A segment is missing, or out of order: only the runs are refused.
+const BAD_SEGMENT: Row = Row {
+    err: b"dcpi: database file r.1 is bad\n",
+    ..HEADLESS_RUNS
+};
+
+// The segment of a second part of the run.
+const SECOND_PART: &[u8] = b"\x01\x01\x01\x01\x00\x00\x01\x00";
+
+#[test]
+fn a_bad_segment(rt: HostRuntime) -> Result<(), Fail> {
+    let alloc = rt.alloc();
+    for bytes in &[b"\x01".as_slice(), SECOND_PART] {
+        let mut store = sound_store(alloc);
+        gives(&rt, alloc, &REPLAYED, &mut store)?;
+        put_files(&rt, alloc, &mut store, &[("r.1", *bytes)])?;
+        gives(&rt, alloc, &BAD_SEGMENT, &mut store)?;
+        gives(&rt, alloc, &LISTED, &mut store)?;
+    }
+    Ok(())
+}
+
+const BAD_HEADS: [&[u8]; 4] = [
+    b"dcpi-head 1\ngeneration 1\nepoch 0\nruns 1\nimages 1\n/bin/app\nprofiles 2\n0 0 0 1\nunknowns 0\n",
+    b"dcpi-head 1\ngeneration 1\nepoch 00\nruns 1\nimages 1\n/bin/app\nprofiles 1\n0 0 0 1\nunknowns 0\n",
+    b"dcpi-head 1\ngeneration 2\nepoch 0\nruns 1\nimages 1\n/bin/app\nprofiles 1\n0 0 0 1\nunknowns 0\n",
+    b"dcpi-head 1\ngeneration 1\nepoch 0\nruns 1\nimages 1\n/bin/app\nprofiles 1\n0 0 0 1\nunknowns 0\n\n",
+];
+
+#[test]
+fn bad_heads(rt: HostRuntime) -> Result<(), Fail> {
+    let alloc = rt.alloc();
+    for head in &BAD_HEADS {
+        let mut store = sound_store(alloc);
+        gives(&rt, alloc, &REPLAYED, &mut store)?;
+        put_files(&rt, alloc, &mut store, &[("head.1", *head)])?;
+        gives(&rt, alloc, &HEADLESS_COUNTS, &mut store)?;
+    }
+    Ok(())
 }

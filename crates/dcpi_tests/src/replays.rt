@@ -98,9 +98,11 @@ const EMPTY_HEAD: &[u8] =
     b"dcpi-head 1\ngeneration 1\nepoch 0\nruns 1\nimages 0\nprofiles 0\nunknowns 0\n";
 
 // The head of the second of two epochs.
-const SECOND_HEAD: &[u8] = b"dcpi-head 1\ngeneration 2\nepoch 1\nruns 1\nimages 1\nA\nprofiles 2\n0 0 0 1\n1 0 0 2\nunknowns 0\n";
+const SECOND_HEAD: &[u8] =
+    b"dcpi-head 1\ngeneration 2\nepoch 1\nruns 1\nimages 1\nA\nprofiles 2\n0 0 0 1\n1 0 0 2\nunknowns 0\n";
 
-const EMPTY_PART: &[u8] = b"\x01\x01\x00\x01\x00\x01\x00\x00\x00\x02\x01\x00\x01\x00\x00\x00\x01\x00";
+const EMPTY_PART: &[u8] =
+    b"\x01\x01\x00\x01\x00\x01\x00\x00\x00\x02\x01\x00\x01\x00\x00\x00\x01\x00";
 
 const AFTER_NOTHING: [File; 3] = [
     ("r.1", Some(EMPTY_PART)),
@@ -108,7 +110,10 @@ const AFTER_NOTHING: [File; 3] = [
     ("seal.1", Some(b"")),
 ];
 
-const AFTER_FOLD: [File; 2] = [("p.0.0.0.1", Some(b"\x01\x01\x02\x03")), ("seal.1", Some(b""))];
+const AFTER_FOLD: [File; 2] = [
+    ("p.0.0.0.1", Some(b"\x01\x01\x02\x03")),
+    ("seal.1", Some(b"")),
+];
 
 const AFTER_EPOCHS: [File; 4] = [
     ("p.0.0.0.1", Some(b"\x01\x01\x00\x01")),
@@ -177,11 +182,17 @@ fn summaries(rt: HostRuntime) -> Result<(), Fail> {
     Ok(())
 }
 
-// A sample so many times, with so many turns of the driver.
-fn long_trace(alloc: Global, start: &[u8], times: u32, turns: u32) -> Result<Vec<u8>, Fail> {
+// A sample so many times behind these lines, with so many turns of the driver.
+fn long_trace(
+    alloc: Global,
+    start: &[u8],
+    sample: &[u8],
+    times: u32,
+    turns: u32,
+) -> Result<Vec<u8>, Fail> {
     let mut text = start.to_vec(alloc)?;
     for _sample in 0..times {
-        text.extend_from_slice(b"s 0 7 1010 cycles\n")?;
+        text.extend_from_slice(sample)?;
     }
     text.extend_from_slice(b"end\n")?;
     for _turn in 0..turns {
@@ -192,21 +203,32 @@ fn long_trace(alloc: Global, start: &[u8], times: u32, turns: u32) -> Result<Vec
 
 #[test]
 fn an_entry_is_full(rt: HostRuntime) -> Result<(), Fail> {
-    let input = long_trace(rt.alloc(), b"dcpi-trace 1 cpus 1\n", 65_536, 0)?;
+    let input = long_trace(
+        rt.alloc(),
+        b"dcpi-trace 1 cpus 1\n",
+        b"s 0 7 1000 cycles\n",
+        65_536,
+        0,
+    )?;
     let row = Row {
         input: &input,
         out: b"run 1\nc 0 cycles taken 65536 known 0 unknown 65536 lost 0\nt 0 folded 65534 placed 1 evicted 0 spilt 1 direct 0\ntotal taken 65536 known 0 unknown 65536 lost 0\n",
         ..REPLAYED
     };
-    gives(&rt, rt.alloc(), &row, &mut sound_store(rt.alloc()))
+    let counted = Row {
+        out: b"u 0 cycles 1000 65536\n",
+        ..COUNTED
+    };
+    gives_all(&rt, rt.alloc(), &[row, counted])
 }
 
 // Five more instructions fill the bucket and both buffers before the entry is full.
-const BEFORE: &[u8] = b"dcpi-trace 1 cpus 1 buckets 1 buffer 1\ns 0 7 1000 cycles\ns 0 7 1004 cycles\ns 0 7 1008 cycles\ns 0 7 100c cycles\ns 0 7 1010 cycles\ns 0 7 1014 cycles\n";
+const BEFORE: &[u8] =
+    b"dcpi-trace 1 cpus 1 buckets 1 buffer 1\ns 0 7 1000 cycles\ns 0 7 1004 cycles\ns 0 7 1008 cycles\ns 0 7 100c cycles\ns 0 7 1010 cycles\ns 0 7 1014 cycles\n";
 
 #[test]
 fn a_full_entry_finds_no_buffer(rt: HostRuntime) -> Result<(), Fail> {
-    let input = long_trace(rt.alloc(), BEFORE, 65_535, 65_541)?;
+    let input = long_trace(rt.alloc(), BEFORE, b"s 0 7 1010 cycles\n", 65_535, 65_541)?;
     let row = Row {
         input: &input,
         out: b"run 1\nc 0 cycles taken 65541 known 0 unknown 65540 lost 1\nt 0 folded 65534 placed 4 evicted 2 spilt 0 direct 0\ntotal taken 65541 known 0 unknown 65540 lost 1\n",
@@ -220,16 +242,68 @@ const AGAIN: Row = Row {
     ..REPLAYED
 };
 
-const SUM_OF_TWO: Row = Row {
-    words: &["prof", "db", "image", "all", "cycles", "csv"],
+/// No count in the database.
+pub const COUNTED: Row = Row {
+    words: &["cat", "db"],
     input: b"",
-    out: b"count,percent,cumulative,image\n6,100.00,100.00,/bin/app\n",
+    out: b"",
     ..REPLAYED
 };
 
+/// No run in the database.
+pub const RUNS: Row = Row {
+    words: &["runs", "db"],
+    ..COUNTED
+};
+
+const SUM_OF_TWO: Row = Row {
+    out: b"k 0 /bin/app cycles 8 6\n",
+    ..COUNTED
+};
+
+const TWO_RUNS: Row = Row {
+    out: b"run 1 parts 1 whole\nc 0 cycles taken 3 known 3 unknown 0 lost 0\nrun 2 parts 1 whole\nc 0 cycles taken 3 known 3 unknown 0 lost 0\n",
+    ..RUNS
+};
+
+const UNKNOWN_ALONE: Row = Row {
+    out: b"u 0 cycles 1000 1\nu 0 cycles 1004 1\nu 0 cycles 1008 1\nu 0 cycles 100c 1\nu 0 cycles 1010 1\nu 0 cycles 1014 1\n",
+    ..COUNTED
+};
+
+const RUN_WITH_LOSS: Row = Row {
+    out: b"run 1 parts 1 whole\nc 0 cycles taken 7 known 0 unknown 6 lost 1\n",
+    ..RUNS
+};
+
+const AT_OTHER_IMAGE: Row = Row {
+    out: b"k 0 B cycles 4 1\n",
+    ..COUNTED
+};
+
+const IN_EPOCHS: Row = Row {
+    out: b"k 0 A cycles 0 1\nk 1 A cycles 0 1\n",
+    ..COUNTED
+};
+
+const RUN_OF_PARTS: Row = Row {
+    out: b"run 1 parts 2 whole\nc 0 cycles taken 2 known 2 unknown 0 lost 0\n",
+    ..RUNS
+};
+
+#[test]
+fn what_is_in_the_database(rt: HostRuntime) -> Result<(), Fail> {
+    let alloc = rt.alloc();
+    gives_all(&rt, alloc, &[COUNTED, RUNS])?;
+    gives_all(&rt, alloc, &[NOTHING_HELD, COUNTED])?;
+    gives_all(&rt, alloc, &[LOST, UNKNOWN_ALONE, RUN_WITH_LOSS])?;
+    gives_all(&rt, alloc, &[CHANGED_SINCE, AT_OTHER_IMAGE])?;
+    gives_all(&rt, alloc, &[TWO_PARTS, IN_EPOCHS, RUN_OF_PARTS])
+}
+
 #[test]
 fn replayed_twice(rt: HostRuntime) -> Result<(), Fail> {
-    gives_all(&rt, rt.alloc(), &[REPLAYED, AGAIN, SUM_OF_TWO])
+    gives_all(&rt, rt.alloc(), &[REPLAYED, AGAIN, SUM_OF_TWO, TWO_RUNS])
 }
 
 // The count of a place is at its limit.
@@ -257,6 +331,9 @@ fn a_count_is_at_its_limit(rt: HostRuntime) -> Result<(), Fail> {
     let mut store = sound_store(alloc);
     put_files(&rt, alloc, &mut store, &FULL_FILES)?;
     gives(&rt, alloc, &FULL, &mut store)?;
-    assert_eq!(rt; names_of(alloc, &mut store)?.as_slice(), b" head.1 p.0.0.0.1 r.1 seal.1".as_slice());
+    assert_eq!(rt;
+        names_of(alloc, &mut store)?.as_slice(),
+        b" head.1 p.0.0.0.1 r.1 seal.1".as_slice()
+    );
     Ok(())
 }

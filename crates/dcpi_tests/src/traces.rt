@@ -8,32 +8,40 @@ pub const FOLD: &[u8] =
 pub const NOTHING: &[u8] = b"dcpi-trace 1 cpus 1\nend\n";
 
 /// Five instructions in a bucket of four.
-pub const EVICTION: &[u8] = b"dcpi-trace 1 cpus 1 buckets 1 buffer 8192\ns 0 7 1000 cycles\ns 0 7 1004 cycles\ns 0 7 1008 cycles\ns 0 7 100c cycles\ns 0 7 1010 cycles\nend\n";
+pub const EVICTION: &[u8] =
+    b"dcpi-trace 1 cpus 1 buckets 1 buffer 8192\ns 0 7 1000 cycles\ns 0 7 1004 cycles\ns 0 7 1008 cycles\ns 0 7 100c cycles\ns 0 7 1010 cycles\nend\n";
 
 /// Seven instructions, a bucket of four, buffers of one entry, and nobody who drains them.
-pub const BOTH_OUT: &[u8] = b"dcpi-trace 1 cpus 1 buckets 1 buffer 1\ns 0 7 1000 cycles\ns 0 7 1004 cycles\ns 0 7 1008 cycles\ns 0 7 100c cycles\ns 0 7 1010 cycles\ns 0 7 1014 cycles\ns 0 7 1018 cycles\nend\nl 0\nl 0\nl 0\nl 0\nl 0\nl 0\nl 0\n";
+pub const BOTH_OUT: &[u8] =
+    b"dcpi-trace 1 cpus 1 buckets 1 buffer 1\ns 0 7 1000 cycles\ns 0 7 1004 cycles\ns 0 7 1008 cycles\ns 0 7 100c cycles\ns 0 7 1010 cycles\ns 0 7 1014 cycles\ns 0 7 1018 cycles\nend\nl 0\nl 0\nl 0\nl 0\nl 0\nl 0\nl 0\n";
 
 /// The same, where the second buffer is drained before the last turn.
-pub const SECOND_LOOK: &[u8] = b"dcpi-trace 1 cpus 1 buckets 1 buffer 1\ns 0 7 1000 cycles\ns 0 7 1004 cycles\ns 0 7 1008 cycles\ns 0 7 100c cycles\ns 0 7 1010 cycles\ns 0 7 1014 cycles\ns 0 7 1018 cycles\nend\nl 0\nl 0\nl 0\nl 0\nl 0\nl 0\nd 0 1\nl 0\n";
+pub const SECOND_LOOK: &[u8] =
+    b"dcpi-trace 1 cpus 1 buckets 1 buffer 1\ns 0 7 1000 cycles\ns 0 7 1004 cycles\ns 0 7 1008 cycles\ns 0 7 100c cycles\ns 0 7 1010 cycles\ns 0 7 1014 cycles\ns 0 7 1018 cycles\nend\nl 0\nl 0\nl 0\nl 0\nl 0\nl 0\nd 0 1\nl 0\n";
 
 /// The mapping of a sample is another one at its drain.
-pub const MAP_CHANGED: &[u8] = b"dcpi-trace 1 cpus 1\nload 7 10000 1000 A\ns 0 7 10004 cycles\nunload 7 10000 1000\nload 7 10000 1000 B\nend\na\nl 0\na\na\n";
+pub const MAP_CHANGED: &[u8] =
+    b"dcpi-trace 1 cpus 1\nload 7 10000 1000 A\ns 0 7 10004 cycles\nunload 7 10000 1000\nload 7 10000 1000 B\nend\na\nl 0\na\na\n";
 
 /// The last instruction of a mapping, and the one behind it.
 pub const BOUNDARY: &[u8] =
     b"dcpi-trace 1 cpus 1\nload 7 10000 1000 A\ns 0 7 10ffc imiss\ns 0 7 11000 imiss\nend\n";
 
 /// A process that was replaced, the kernel, and a process that nobody told of.
-pub const STRANGER: &[u8] = b"dcpi-trace 1 cpus 1\nkernel fffffc0000230000 10000 vmunix\nload 7 120000000 1000 old\nexec 7 120000000 2000 new\ns 0 7 120000010 cycles\ns 0 7 fffffc0000230020 cycles\ns 0 9 120000010 cycles\nend\n";
+pub const STRANGER: &[u8] =
+    b"dcpi-trace 1 cpus 1\nkernel fffffc0000230000 10000 vmunix\nload 7 120000000 1000 old\nexec 7 120000000 2000 new\ns 0 7 120000010 cycles\ns 0 7 fffffc0000230020 cycles\ns 0 9 120000010 cycles\nend\n";
 
 /// A flush that is answered while samples go on.
-pub const FLUSH: &[u8] = b"dcpi-trace 1 cpus 1\ns 0 7 1000 cycles\ns 0 7 1004 cycles\ns 0 7 1008 cycles\ndrain\nend\nl 0\na\nl 0\nl 0\nl 0\n";
+pub const FLUSH: &[u8] =
+    b"dcpi-trace 1 cpus 1\ns 0 7 1000 cycles\ns 0 7 1004 cycles\ns 0 7 1008 cycles\ndrain\nend\nl 0\na\nl 0\nl 0\nl 0\n";
 
 /// Two epochs.
-pub const TWO_EPOCHS: &[u8] = b"dcpi-trace 1 cpus 1\nload 7 10000 1000 A\ns 0 7 10000 cycles\nepoch\ns 0 7 10000 cycles\nend\n";
+pub const TWO_EPOCHS: &[u8] =
+    b"dcpi-trace 1 cpus 1\nload 7 10000 1000 A\ns 0 7 10000 cycles\nepoch\ns 0 7 10000 cycles\nend\n";
 
 /// A sample that waits for its mapping.
-pub const WAITS: &[u8] = b"dcpi-trace 1 cpus 1\nload 7 10000 2000 /bin/app\ns 0 7 10008 cycles\nend\nl 0\na\nl 0\n";
+pub const WAITS: &[u8] =
+    b"dcpi-trace 1 cpus 1\nload 7 10000 2000 /bin/app\ns 0 7 10008 cycles\nend\nl 0\na\nl 0\n";
 
 /// A program counter that is no multiple of 4.
 pub const UNALIGNED: &[u8] = b"dcpi-trace 1 cpus 1\ns 0 7 1002 cycles\nend\n";
@@ -42,11 +50,11 @@ pub const UNALIGNED: &[u8] = b"dcpi-trace 1 cpus 1\ns 0 7 1002 cycles\nend\n";
 pub const TRUNCATED: &[u8] = b"dcpi-trace 1 cpus 1\ns 0 7 10";
 
 /// One sample at an offset of an image.
-pub const ONE_MORE: &[u8] =
-    b"dcpi-trace 1 cpus 1\nload 7 10000 1000 A\ns 0 7 10004 cycles\nend\n";
+pub const ONE_MORE: &[u8] = b"dcpi-trace 1 cpus 1\nload 7 10000 1000 A\ns 0 7 10004 cycles\nend\n";
 
 /// A flush that waits for a buffer.
-pub const FLUSH_WAITS: &[u8] = b"dcpi-trace 1 cpus 1 buckets 1 buffer 8192\ns 0 7 1000 cycles\ns 0 7 1004 cycles\ns 0 7 1008 cycles\ns 0 7 100c cycles\ns 0 7 1010 cycles\ndrain\nend\nl 0\nl 0\nl 0\nl 0\nl 0\na\nl 0\nd 0 2\na\nd 0 0\na\n";
+pub const FLUSH_WAITS: &[u8] =
+    b"dcpi-trace 1 cpus 1 buckets 1 buffer 8192\ns 0 7 1000 cycles\ns 0 7 1004 cycles\ns 0 7 1008 cycles\ns 0 7 100c cycles\ns 0 7 1010 cycles\ndrain\nend\nl 0\nl 0\nl 0\nl 0\nl 0\na\nl 0\nd 0 2\na\nd 0 0\na\n";
 
 /// An image whose name has a comma.
 pub const COMMA: &[u8] = b"dcpi-trace 1 cpus 1\nload 7 0 8 a,b\ns 0 7 4 cycles\nend\n";
