@@ -3,6 +3,7 @@ pub mod Forms
 pub mod Heading
 pub mod KnownLaws
 pub mod Listed
+pub mod Owed
 pub mod Passing
 pub mod Promises
 pub mod Replayed

@@ -13,6 +13,7 @@ use Rattle.dcpi_top.specs.Causes.{IsCause}
 use Rattle.dcpi_top.specs.Owing.{IsOwed, IsRefusedAs, IsSound}
 use Rattle.dcpi_top.specs.Answers.{Answers, Call, Serves, ServesCall}
 use Rattle.dcpi_top.proofs.KnownLaws.{Known}
+use Rattle.dcpi_top.proofs.Owed.{owed_is_answered}
 use Rattle.dcpi_top.proofs.Sound.{served_soundly}
 
 -- only words that are no command are refused as such
@@ -66,6 +67,8 @@ answered laws call refusal serves told later = record {
     usage_one (command_of call.words) call.input call.disk call.output refusal serves,
     usage_two (command_of call.words) call.input call.disk call.output refusal serves,
   );
+  answers = λ command owed is due. owed_is_answered laws command call.input call.disk call.output refusal owed
+      (of_command (command_of call.words) command call.input call.disk call.output refusal serves is) due;
   complete = λ command is sound read store write. served_soundly laws command call.input call.disk call.output refusal
       (of_command (command_of call.words) command call.input call.disk call.output refusal serves is) sound read store write;
 }

@@ -73,7 +73,7 @@ pub not_bad : (o : Option Files) (f : Files) (h : Head) (file : FileRef) → IfS
 not_bad o f h file bad told has = good_head f h file has (of_told o (λ files. IsBadHead files file) f bad told)
 
 -- an epoch that is there is not above the last one
-there_is : (epochs : Epochs) (h k : Head) (epoch last : ℕ) → epochs ≡ One epoch → last ≡ h.epoch → last < epoch → h ≡ k → AreThere epochs k → ⊥
+pub there_is : (epochs : Epochs) (h k : Head) (epoch last : ℕ) → epochs ≡ One epoch → last ≡ h.epoch → last < epoch → h ≡ k → AreThere epochs k → ⊥
 there_is epochs h k epoch last asked is above same there =
     let within : epoch ≤ k.epoch = subst (λ e. AreThere e k) asked there in omega (arith, is, above, within, ap (λ (x : Head). x.epoch) same)
 

@@ -71,6 +71,9 @@ pub record Answers (call : Call) (status : ℕ) : Type 0 where
   pub later : call.errors.faults_before ≤ call.errors.faults_after
   -- 1 exactly where the words have no form of a command
   pub usage : (status ≡ 1) ↔ (command_of call.words ≡ None)
+  -- a refusal that has its cause, and none before it, is the one that is answered, where no fault was counted and memory was found
+  pub answers : (command : Command) (owed : Refusal) → command_of call.words ≡ Some command →
+      IsOwed command call.input call.disk owed → IsRefusedAs owed refusal
   -- a command of which all is sound is served: 0, or want of memory, where no fault was counted
   pub complete : (command : Command) → command_of call.words ≡ Some command →
       IsSound command call.input call.disk → (HasFailed call.input → ⊥) →

@@ -65,17 +65,6 @@ pub record StopsRun (input : Stream) (disk : Disk) (fault : DbFault) : Type 0 wh
   pub stops : (f : Files) → disk.old ≡ Some f →
       (g : Files) × (disk.new ≡ Some g) × Stops recording head f g fault
 
--- The input is told to be a trace, the files are told to have a head, and the run stops there for this fault.
-pub record MustStop (input : Stream) (disk : Disk) (fault : DbFault) : Type 0 where
-  pub recording : Recording
-  pub head : Head
-  pub files : Files
-  pub grown : Files
-  pub reads : IsToldTrace input recording
-  pub told : disk.old ≡ Some files
-  pub has_head : HaveHead files head
-  pub stops : Stops recording head files grown fault
-
 -- The input is told to be a trace, the files are told to stand for a database, and the run keeps it within its limits.
 pub record IsSoundReplay (input : Stream) (disk : Disk) : Type 0 where
   pub recording : Recording
