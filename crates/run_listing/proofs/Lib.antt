@@ -1,5 +1,4 @@
 mod Examples
-pub mod Bounds
 pub mod Recording
 pub mod Progress
 pub mod Stops

@@ -4,7 +4,8 @@ use Rattle.std.specs.declared.option.Option.{Option}
 use Rattle.std.specs.List.{join_with_byte}
 use Rattle.std.specs.Fmt.{decimal}
 use Rattle.database_model.specs.Runs.{Segment, Recorded}
-use Rattle.run_listing.specs.Tallies.{tally_text}
+use Rattle.database_model.specs.Tally.{tally_of}
+use Rattle.summary_text.specs.Summaries.{tally_lines}
 use Rattle.run_listing.specs.Runs.{readable, last_run, parts_of, is_whole, joined}
 
 -- a run that has its last part is whole, else it was cut
@@ -18,7 +19,7 @@ run_line run parts whole = join_with_byte 32 (codes "run" ∷ decimal run ∷ co
 
 -- the text of a run with so many parts
 abbrev pub record_text : Recorded → ℕ → Bool → List ℕ
-record_text r parts whole = run_line r.run parts whole ++ tally_text r
+record_text r parts whole = run_line r.run parts whole ++ tally_lines (tally_of r)
 
 -- the text of a run of these parts
 abbrev pub run_text : ℕ → List Segment → List ℕ

@@ -5,8 +5,9 @@ ghost use Rattle.run_listing.specs.Steps.{shown};
 ghost use Rattle.run_listing.specs.Texts.{ending, run_line};
 
 use crate::joins::JoinedRun;
-use crate::tallies::put_tally;
+use run_record::tally;
 use std::alloc::{AllocError, Global};
+use summary_text::put_tally;
 use text_num::put_dec;
 
 /// Appends the text of a run, if it is not run 0, which stands before the first.
@@ -18,7 +19,8 @@ pub(crate) fn put_run(alloc: Global, out: &mut Vec<u8>, run: &JoinedRun) -> Resu
         return Ok(());
     }
     put_run_line(out, run)?;
-    put_tally(alloc, out, &run.kept)
+    let rows = tally(alloc, &run.kept)?;
+    put_tally(out, &rows)
 }
 
 fn put_run_line(out: &mut Vec<u8>, run: &JoinedRun) -> Result<(), AllocError>

@@ -1,8 +1,0 @@
--- The drains before this one have small counts.
-use Rattle.std.proofs.Common.{ℕ, ◌<◌, slice_index_or}
-use Rattle.database_model.specs.Runs.{Drained}
-use Rattle.run_listing.specs.Tallies.{AreSmall}
-use Rattle.run_listing.proofs.tallies.read_counts.Given as goal
-
-abbrev pub invariant-loop-drain : goal.invariant-loop-drain
-invariant-loop-drain l = (k : ℕ) → (d : Drained) → k < l.drain-index → AreSmall (slice_index_or l.drains k d).batch.entries
