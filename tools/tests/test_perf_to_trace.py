@@ -155,6 +155,16 @@ class Events(unittest.TestCase):
             ["load 7 5000 1000 /bin/app", "s 0 7 5000 cycles", "exit 7"],
         ),
         (
+            "an exec leaves one thread",
+            [forked(7, 7, 1), forked(7, 8, 7), executed(), mapped(0x5000, 4), ended(7, 7)],
+            ["exec 7 5000 4 /bin/app", "exit 7"],
+        ),
+        (
+            "a child between an exec and the first mapping has none",
+            [mapped(0x5000, 4), executed(), forked(8, 8, 7), sample(0x5000, pid=8)],
+            ["load 7 5000 4 /bin/app", "s 0 8 5000 cycles"],
+        ),
+        (
             "a child is told at its first sample in a mapping",
             [
                 mapped(0x5000, 0x1000), mapped(0x7000, 0x1000, name=b"/lib/c"), forked(8, 8, 7),
@@ -233,6 +243,17 @@ class Events(unittest.TestCase):
         self.assertEqual((status, found), (0, wanted))
 
 
+    def test_modifiers(self):
+        """A name without modifiers stands for one spelling with them, whichever comes first."""
+        lines = [sample(4 * at, event=name) for at, name in enumerate(
+            [b"cpu-clock:u", b"cpu-clock:u", b"cpu-clock", b"cpu-clock:k", b"cpu-clocks"])]
+        status, found, err = converted(*lines)
+        self.assertEqual((status, found), (3, ["s 0 7 0 cycles", "s 0 7 4 cycles"]))
+        self.assertIn("left out: 1 samples of event cpu-clock (", err)
+        status, found, _ = converted(*lines, words=["--event", "cpu-clock:k=imiss"])
+        self.assertEqual((status, found), (3, ["s 0 7 c imiss"]))
+
+
 class LeftOut(unittest.TestCase):
     """What a trace can't hold is counted."""
 
@@ -274,6 +295,23 @@ class LeftOut(unittest.TestCase):
         self.check(
             [mapped(0x5000, 4), executed(), mapped(0x5000, 4, name=b"/" * 256), mapped(0x9000, 4)],
             ["load 7 5000 4 /bin/app", "exit 7", "load 7 9000 4 /bin/app"],
+            "1 mappings with no name of 1 to 255 bytes",
+        )
+
+    def test_long_name_before_the_recording(self):
+        """Where nothing is known an `unload` is told again as well, and no `scan` follows it."""
+        zero = {"time": "0.000000"}
+        self.check(
+            [
+                mapped(0x6000, 4, name=b"/a", **zero), mapped(0x5000, 4, name=b"/b", **zero),
+                mapped(0x5000, 4, name=b"/" * 256, **zero), mapped(0x4000, 4, name=b"/c", **zero),
+                mapped(0x7000, 0x1000, 0x4000, **zero),
+            ],
+            [
+                "scan 7 6000 4 /a", "scan 7 5000 4 /b", "unload 7 5000 4", "load 7 4000 4 /c",
+                "load 7 3000 5000 /bin/app", "load 7 6000 4 /a", "unload 7 5000 4",
+                "load 7 4000 4 /c",
+            ],
             "1 mappings with no name of 1 to 255 bytes",
         )
 
@@ -444,7 +482,7 @@ class Pages:
 class AnyOrder(unittest.TestCase):
     """Random mappings, forks, execs and ends: each sample lies where the pages say."""
 
-    NAMES = [b"/lib/a", b"/lib/b", b"/bin/app", b"//anon", b"[vdso]"]
+    NAMES = [b"/lib/a", b"/lib/b", b"/bin/app", b"//anon", b"[vdso]", b"/" * 256]
 
     def lines(self, draw, wanted):
         """Random lines, and the place of each of their samples in a mapping."""
@@ -454,7 +492,7 @@ class AnyOrder(unittest.TestCase):
             pid = draw.choice(living)
             kind = draw.randrange(12)
             if kind < 4:
-                page, count = draw.randrange(2, 40), draw.randrange(1, 4)
+                page, count = draw.randrange(2, 30), draw.randrange(1, 6)
                 offset = draw.randrange(30)
                 name = draw.choice(self.NAMES)
                 pages.map(pid, page, count, offset, name)
@@ -463,7 +501,8 @@ class AnyOrder(unittest.TestCase):
                 page = draw.choice(sorted(pages.of[pid]))
                 name, offset = pages.of[pid][page]
                 inside = draw.randrange(1024) * 4
-                wanted.append((name, (offset << 12) + inside))
+                known = len(name) < 256
+                wanted.append((name, (offset << 12) + inside) if known else None)
                 yield sample((page << 12) + inside + draw.randrange(4), pid=pid)
             elif kind == 9:
                 child = draw.randrange(1, 9)
@@ -480,7 +519,7 @@ class AnyOrder(unittest.TestCase):
                 yield ended(pid, pid)
 
     def test_random(self):
-        for seed in range(40):
+        for seed in range(60):
             with self.subTest(seed=seed):
                 wanted = []
                 given = list(self.lines(random.Random(seed), wanted))
