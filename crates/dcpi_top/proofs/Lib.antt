@@ -3,6 +3,7 @@ pub mod Forms
 pub mod Heading
 pub mod KnownLaws
 pub mod Listed
+pub mod OneStop
 pub mod Owed
 pub mod Passing
 pub mod Promises
@@ -10,4 +11,5 @@ pub mod Replayed
 pub mod Sound
 pub mod Stopping
 pub mod Telling
+pub mod Transfers
 pub mod Unprinted

@@ -1,5 +1,5 @@
 -- A refusal that is owed is the one that is answered, but for a fault or want of memory.
-use Rattle.std.proofs.Common.{◌≡◌, ◌≤◌, ◌<◌, ◌⊎◌, inl, inr, ℕ, List, refl, sym, subst, ap, ◌∙◌}
+use Rattle.std.proofs.Common.{◌≡◌, ◌≤◌, ◌<◌, ◌⊎◌, inl, inr, ℕ, true, List, refl, sym, subst, ap, ◌∙◌}
 use Rattle.std.specs.declared.option.Option.{Option}
 use Rattle.std.specs.declared.option.Option.TheVariants.{Some, None}
 use Rattle.std.specs.Prelude.{IfSome}
@@ -14,7 +14,15 @@ use Rattle.symbol_ranges.specs.declared.refusals.SymbolWhy.{SymbolWhy}
 use Rattle.symbol_ranges.specs.Lines as symbols
 use Rattle.database_state.specs.Database.{Database}
 use Rattle.database_state.specs.Heads.{Head}
-use Rattle.database_state.specs.Standing.{HaveHead}
+use Rattle.database_state.specs.Standing.{HaveHead, database_of}
+use Rattle.database_state.specs.declared.faults.DbFault.{DbFault}
+use Rattle.database_state.specs.declared.faults.DbFault.TheVariants as faults
+use Rattle.trace_model.specs.Streams.{records_in}
+use Rattle.growth_model.specs.Grown.{GrownWhole}
+use Rattle.dcpid_core.specs.Storing.{is_found_before}
+use Rattle.replay_drive.specs.Growing.{StopsAt}
+use Rattle.dcpi_top.specs.Replays.{IsReplayText, MustStop, StopsRun, run_of}
+use Rattle.dcpi_top.proofs.OneStop.{no_end, one_stop}
 use Rattle.report_text.specs.declared.epochs.Epochs.{Epochs}
 use Rattle.report_text.specs.declared.epochs.Epochs.TheVariants.{One}
 use Rattle.dcpiprof_report.specs.Reading.{first_bad, wanted}
@@ -31,7 +39,7 @@ use Rattle.dcpi_top.specs.Owing.{HasToldEpochs, IsFree, IsOwed, IsRefusedAs, IsT
 use Rattle.dcpi_top.specs.Answers.{Serves}
 use Rattle.dcpi_top.proofs.Heading.{good_head, one_bad_head}
 use Rattle.dcpi_top.proofs.KnownLaws.{Known}
-use Rattle.dcpi_top.proofs.Sound.{first_found, no_bad_symbol, no_epoch, not_bad, same_head, there_is, whole_found}
+use Rattle.dcpi_top.proofs.Sound.{first_found, images_apart, no_bad_line, no_bad_symbol, no_epoch, not_bad, same_head, same_trace, there_is, whole_found}
 
 -- how a refusal is owed: no text can be given, and each other cause is none
 by_cause : (command : Command) (input : Stream) (disk : Disk) (output : Stream) (refusal : Option Refusal) (owed : Refusal)
@@ -366,12 +374,72 @@ runs_file laws input disk file told (Full what held added) cause = absurd cause.
 runs_file laws input disk file told (SymbolBad a b) cause = absurd cause.0
 runs_file laws input disk file told (NoSuchEpoch epoch last) cause = absurd cause.0
 
+-- ---- a part at which a replay stops
+
+run_text : Known → (input : Stream) (disk : Disk) (fault : DbFault) → MustStop input disk fault → (text : List ℕ) → IsReplayText input disk text → ⊥
+run_text laws input disk fault must text is =
+    let one : is.recording ≡ must.recording = same_trace laws input.old is.recording must.recording is.reads must.reads in
+    let same : is.head ≡ must.head = same_head laws disk.old must.files is.head must.head is.opened must.told must.has_head in
+    let (after, new, now, has, whole) = is.grown must.files must.told in
+    no_end laws must.recording must.head new must.files must.grown after fault (images_apart input.old must.recording must.reads) must.stops has
+    (subst (λ h. GrownWhole must.recording.images (records_in must.recording) (run_of must.recording h) (database_of h must.files) (database_of new after)) same
+    (subst (λ r. GrownWhole r.images (records_in r) (run_of r is.head) (database_of is.head must.files) (database_of new after)) one
+    (subst (λ kept. GrownWhole is.recording.images (records_in is.recording) kept (database_of is.head must.files) (database_of new after)) is.run.kept whole)))
+
+one_run : Known → (input : Stream) (disk : Disk) (told found : DbFault) → is_found_before found ≡ true → MustStop input disk told → StopsRun input disk found → found ≡ told
+one_run laws input disk told found before must run =
+    let one : run.recording ≡ must.recording = same_trace laws input.old run.recording must.recording run.reads must.reads in
+    let same : run.head ≡ must.head = same_head laws disk.old must.files run.head must.head run.opened must.told must.has_head in
+    let (c, now, (parts, at)) = run.stops must.files must.told in
+    one_stop laws must.recording must.head must.files must.grown c parts told found (images_apart input.old must.recording must.reads) must.stops before
+    (subst (λ h. StopsAt must.recording (run_of must.recording h) parts h must.files c found) same
+    (subst (λ r. StopsAt r (run_of r run.head) parts run.head must.files c found) one at))
+
+-- the refusal of a fault
+abbrev as_refusal : DbFault → Refusal
+as_refusal faults.StoreFault = StoreFault
+as_refusal (faults.Bad file) = DatabaseBad file
+as_refusal (faults.Full what held added) = Full what held added
+as_refusal faults.Memory = Memory
+
+stop_cause : Known → (input : Stream) (disk : Disk) (owed : Refusal) (fault : DbFault) → as_refusal fault ≡ owed → MustStop input disk fault
+    → (r : Refusal) → IsCause Replay input disk r → (r ≡ owed) ⊎ IsFree r
+stop_cause laws input disk owed fault is must Usage cause = absurd cause
+stop_cause laws input disk owed fault is must (TraceBad a b) cause = absurd (no_bad_line laws input.old a b must.recording cause.2 must.reads)
+stop_cause laws input disk owed fault is must ReadFault cause = inr tt
+stop_cause laws input disk owed fault is must StoreFault cause = inr tt
+stop_cause laws input disk owed fault is must WriteFault cause = absurd cause
+stop_cause laws input disk owed fault is must Memory cause = inr tt
+stop_cause laws input disk owed fault is must (DatabaseBad other) cause = elim cause.2 [
+  | inl bad ↦ absurd (not_bad disk.old must.files must.head other bad.bad must.told must.has_head)
+  | inr run ↦ inl (ap as_refusal (one_run laws input disk fault (faults.Bad other) refl must run) ∙ is)
+]
+stop_cause laws input disk owed fault is must (Full what held added) cause =
+    inl (ap as_refusal (one_run laws input disk fault (faults.Full what held added) refl must cause.1) ∙ is)
+stop_cause laws input disk owed fault is must (SymbolBad a b) cause = absurd cause.0
+stop_cause laws input disk owed fault is must (NoSuchEpoch epoch last) cause = absurd cause.0
+
+owed_stop : Known → (input : Stream) (disk : Disk) (output : Stream) (refusal : Option Refusal) (owed : Refusal) (fault : DbFault) → as_refusal fault ≡ owed
+    → Serves Replay input disk output refusal → MustStop input disk fault → IsRefusedAs owed refusal
+owed_stop laws input disk output refusal owed fault is serves must = by_cause Replay input disk output refusal owed serves
+    (run_text laws input disk fault must) (stop_cause laws input disk owed fault is must)
+
+owed_full : Known → (command : Command) (input : Stream) (disk : Disk) (output : Stream) (refusal : Option Refusal) (what : Rattle.database_state.specs.declared.faults.FullWhat.FullWhat)
+    (held added : ℕ) → Serves command input disk output refusal → Rattle.dcpi_top.specs.Owing.MustBeFull command input disk what held added
+    → IsRefusedAs (Full what held added) refusal
+owed_full laws Plain input disk output refusal what held added serves must = absurd must
+owed_full laws Replay input disk output refusal what held added serves must = owed_stop laws input disk output refusal (Full what held added) (faults.Full what held added) refl serves must
+owed_full laws (ProfImage epochs event csv) input disk output refusal what held added serves must = absurd must
+owed_full laws (ProfProcedure epochs event csv) input disk output refusal what held added serves must = absurd must
+owed_full laws Cat input disk output refusal what held added serves must = absurd must
+owed_full laws Runs input disk output refusal what held added serves must = absurd must
+
 -- ---- all of them
 
 owed_file : Known → (command : Command) (input : Stream) (disk : Disk) (output : Stream) (refusal : Option Refusal) (file : FileRef)
     → Serves command input disk output refusal → Rattle.dcpi_top.specs.Owing.MustFind command input disk file → IsRefusedAs (DatabaseBad file) refusal
 owed_file laws Plain input disk output refusal file serves must = absurd must
-owed_file laws Replay input disk output refusal file serves must = absurd must
+owed_file laws Replay input disk output refusal file serves must = owed_stop laws input disk output refusal (DatabaseBad file) (faults.Bad file) refl serves must
 owed_file laws (ProfImage epochs event csv) input disk output refusal file serves must = by_cause (ProfImage epochs event csv) input disk output refusal (DatabaseBad file) serves
     (λ text is. listed_good laws None epochs event csv disk is.head file text is.opened is.listed must) (image_file laws epochs event csv input disk file must)
 owed_file laws (ProfProcedure epochs event csv) input disk output refusal file serves must = by_cause (ProfProcedure epochs event csv) input disk output refusal (DatabaseBad file) serves
@@ -417,6 +485,6 @@ owed_is_answered laws command input disk output refusal (DatabaseBad file) serve
       (head_text_none command input disk file owed.0 head) (head_cause command input disk file owed.0 head)
   | inr must ↦ owed_file laws command input disk output refusal file serves must
 ]
-owed_is_answered laws command input disk output refusal (Full what held added) serves owed = absurd owed
+owed_is_answered laws command input disk output refusal (Full what held added) serves owed = owed_full laws command input disk output refusal what held added serves owed
 owed_is_answered laws command input disk output refusal (SymbolBad line why) serves owed = owed_symbol laws command input disk output refusal line why serves owed
 owed_is_answered laws command input disk output refusal (NoSuchEpoch epoch last) serves owed = owed_epoch laws command input disk output refusal epoch last serves owed

@@ -44,7 +44,7 @@ no_part laws recording kept parts begin f g fault at other before new distinct s
     at.head g new other distinct holds.0 holds.1 grows few stops
 
 -- A part whose head keeps the limit on rows has room for them.
-no_rows : Known → (recording : Recording) (kept : Recorded) (parts : ℕ) (begin : Head) (f g : Files) (fault : DbFault)
+pub no_rows : Known → (recording : Recording) (kept : Recorded) (parts : ℕ) (begin : Head) (f g : Files) (fault : DbFault)
     (at : StopsAt recording kept parts begin f g fault) (held added : ℕ) (before after : Head)
     → HeadGrowsTo recording.images (records_in recording) kept parts begin before
     → HeadGrows recording.images (additions_of recording.images (records_in recording) (segment_of (records_in recording) kept parts).drains)

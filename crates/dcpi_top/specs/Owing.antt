@@ -7,6 +7,8 @@ use Rattle.store_io.specs.Files.{Files}
 use Rattle.store_io.specs.declared.file_refs.FileRef.{FileRef}
 use Rattle.database_state.specs.Heads.{Head}
 use Rattle.database_state.specs.Standing.{HaveHead}
+use Rattle.database_state.specs.declared.faults.FullWhat.{FullWhat}
+use Rattle.database_state.specs.declared.faults.DbFault.TheVariants as faults
 use Rattle.trace_model.specs.Recording.{Recording}
 use Rattle.symbol_ranges.specs.declared.symbols.Symbol.{Symbol}
 use Rattle.report_text.specs.declared.epochs.Epochs.{Epochs}
@@ -20,7 +22,7 @@ use Rattle.dcpi_top.specs.Streams.{Stream, Disk}
 use Rattle.dcpi_top.specs.Inputs.{IsToldBad, IsToldBadSymbol, IsToldList, IsToldTrace}
 use Rattle.dcpi_top.specs.Heads.{AreThere, IsToldBadHead, IsToldHead}
 use Rattle.dcpi_top.specs.Listings.{bad_profile, bad_segment}
-use Rattle.dcpi_top.specs.Replays.{IsSoundReplay}
+use Rattle.dcpi_top.specs.Replays.{IsSoundReplay, MustStop}
 use Rattle.dcpi_top.specs.Causes.{ReadsSymbols, ReadsTrace, UsesStore}
 
 -- the files are told to have a head, and these epochs are there
@@ -76,17 +78,25 @@ pub record ToldWhole (first : Head → Files → Option FileRef) (disk : Disk) (
 abbrev pub HasToldList : Stream → Type 0
 HasToldList input = (symbols : List Symbol) × IsToldList input symbols
 
--- A file that a listing reads behind the head is told to be the first bad one. (Where a replay stops at a part is said by its
--- causes: it is never served then, and never refused otherwise.)
+-- a file that the command reads behind the head is told to be the first bad one
 abbrev pub MustFind : Command → Stream → Disk → FileRef → Type 0
 MustFind Plain input disk file = ⊥
-MustFind Replay input disk file = ⊥
+MustFind Replay input disk file = MustStop input disk (faults.Bad file)
 MustFind (ProfImage epochs event csv) input disk file =
     ToldFirst epochs (code_of event) disk (Some file)
 MustFind (ProfProcedure epochs event csv) input disk file =
     HasToldList input × ToldFirst epochs (code_of event) disk (Some file)
 MustFind Cat input disk file = ToldWhole bad_profile disk (Some file)
 MustFind Runs input disk file = ToldWhole bad_segment disk (Some file)
+
+-- a part of the run is told to have no room
+abbrev pub MustBeFull : Command → Stream → Disk → FullWhat → ℕ → ℕ → Type 0
+MustBeFull Plain input disk what held added = ⊥
+MustBeFull Replay input disk what held added = MustStop input disk (faults.Full what held added)
+MustBeFull (ProfImage epochs event csv) input disk what held added = ⊥
+MustBeFull (ProfProcedure epochs event csv) input disk what held added = ⊥
+MustBeFull Cat input disk what held added = ⊥
+MustBeFull Runs input disk what held added = ⊥
 
 -- The refusal has its cause by what the input and the store tell, and no cause comes before it.
 abbrev pub IsOwed : Command → Stream → Disk → Refusal → Type 0
@@ -99,7 +109,7 @@ IsOwed command input disk WriteFault = ⊥
 IsOwed command input disk Memory = ⊥
 IsOwed command input disk (DatabaseBad file) =
     UsesStore command × (IsToldBadHead disk file ⊎ MustFind command input disk file)
-IsOwed command input disk (Full what held added) = ⊥
+IsOwed command input disk (Full what held added) = MustBeFull command input disk what held added
 IsOwed command input disk (SymbolBad line why) =
     ReadsSymbols command × IsToldBegun command disk × IsToldBadSymbol input line why
 IsOwed command input disk (NoSuchEpoch epoch last) = IsToldMissing command disk epoch last

@@ -8,15 +8,15 @@ use Rattle.trace_model.specs.Streams.{records_in}
 use Rattle.store_io.specs.Files.{Files}
 use Rattle.store_io.specs.Crashes.{LeavesOnly}
 use Rattle.database_model.specs.Runs.{Recorded}
-use Rattle.database_state.specs.Heads.{Head}
+use Rattle.database_state.specs.Heads.{Head, row_count}
 use Rattle.database_state.specs.Standing.{HaveHead, database_of}
 use Rattle.database_state.specs.declared.faults.DbFault.{DbFault}
 use Rattle.growth_model.specs.Fitting.{KeepsLimits}
 use Rattle.growth_model.specs.Grown.{GrownWhole, part_count}
 use Rattle.run_rounds.specs.Rounds.{reference_record}
 use Rattle.dcpid_core.specs.declared.outcomes.Outcome.{Outcome}
-use Rattle.dcpid_core.specs.Storing.{TellsNow}
-use Rattle.replay_drive.specs.Growing.{MayBeGrown, StopsAt}
+use Rattle.dcpid_core.specs.Storing.{StopsPart, TellsNow}
+use Rattle.replay_drive.specs.Growing.{HeadGrownBy, MayBeGrown, StopsAt, part_at}
 use Rattle.replay_drive.specs.Outcomes.{IsReplayOf}
 use Rattle.summary_text.specs.Summaries.{summary_of}
 use Rattle.dcpi_top.specs.Streams.{Stream, Disk, KeepsCount}
@@ -64,6 +64,27 @@ pub record StopsRun (input : Stream) (disk : Disk) (fault : DbFault) : Type 0 wh
   pub opened : OpenedWith disk head
   pub stops : (f : Files) → disk.old ≡ Some f →
       (g : Files) × (disk.new ≡ Some g) × Stops recording head f g fault
+
+-- The first part at which the run of a trace stops, and why: a file is bad, or an image or a count has no room. No part before it
+-- lacks rows.
+pub record StopsFirst (recording : Recording) (head : Head) (f g : Files) (fault : DbFault)
+    : Type 0 where
+  pub parts : ℕ
+  pub at : StopsAt recording (run_of recording head) parts head f g fault
+  pub wrong : StopsPart (part_at recording (run_of recording head) parts at.head) g fault
+  pub rows : (number : ℕ) (h : Head) → number ≤ parts →
+      HeadGrownBy recording (run_of recording head) number head h → row_count h ≤ 65536
+
+-- The input is told to be a trace, the files are told to have a head, and the run stops for this fault.
+pub record MustStop (input : Stream) (disk : Disk) (fault : DbFault) : Type 0 where
+  pub recording : Recording
+  pub head : Head
+  pub files : Files
+  pub grown : Files
+  pub reads : IsToldTrace input recording
+  pub told : disk.old ≡ Some files
+  pub has_head : HaveHead files head
+  pub stops : StopsFirst recording head files grown fault
 
 -- The input is told to be a trace, the files are told to stand for a database, and the run keeps it within its limits.
 pub record IsSoundReplay (input : Stream) (disk : Disk) : Type 0 where
