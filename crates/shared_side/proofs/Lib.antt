@@ -1,0 +1,4 @@
+mod Rung
+mod Taking
+mod Polling
+mod Handing
