@@ -1,0 +1,6 @@
+pub mod Cutting
+pub mod Gone
+pub mod Keeping
+pub mod Sets
+pub mod Spelled
+pub mod Still

@@ -1,0 +1,7 @@
+pub mod Faults
+pub mod Fields
+pub mod FileForms
+pub mod Named
+pub mod Removals
+pub mod Sets
+pub mod Unused
