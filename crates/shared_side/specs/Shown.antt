@@ -43,7 +43,7 @@ pub record AreKeys (first second third : CellKey) (bell : TableId) : Type 0 wher
   pub made : second.made ≡ first.made
   pub bells : (first.bell ≡ bell) × (second.bell ≡ bell) × (third.bell ≡ bell)
 
--- what the daemon's side keeps: its keys, and the values rung, which never fall and are at most 2^32
+-- what the daemon's side keeps: its keys; the values rung never fall and are at most 2^32
 pub record IsDaemonSide (first second third : CellKey) (bell : RingSeen) : Type 0 where
   pub keys : AreKeys first second third bell.bell
   pub rising : NeverFallsFrom 0 bell.rungs

@@ -8,7 +8,7 @@ use turn_cell::close;
 
 /// Ends both sides of one processor, as one call of `shared` made them: the words of the cells 0, 1
 /// and 2. With these words what was handed and what was taken meet the handover, where each value
-/// was given back so often; and what was heard is 0 or was rung, and is at most the value rung last.
+/// was given back so often. What was heard is 0 or was rung, and is at most the value rung last.
 pub fn close_shared(lane: SharedLane, daemon: SharedDaemon) -> [u64; 3]
     requires { lane.fixed.ends ≡ daemon.fixed.ends }
     ensures first { (given : ℕ) × IsHandover lane.seen.first.handed daemon.far.first.taken given
