@@ -15,6 +15,9 @@ const FACTOR: u64 = 6_364_136_223_846_793_005;
 /// What the generator's step adds.
 const INCREMENT: u64 = 1_442_695_040_888_963_407;
 
+/// A draw leaves out the lower 33 bits of the state.
+const LOWER_BITS: u64 = 8_589_934_592;
+
 /// A linear congruential generator modulo 2 to the 64, of which a draw gives the upper 31 bits.
 #[derive(Drop)]
 pub struct Draws {
@@ -29,7 +32,7 @@ impl Draws {
         ensures drawn { result ≡ drawn (stepped self.old.state) }
     {
         self.state = self.state.wrapping_mul(FACTOR).wrapping_add(INCREMENT);
-        self.state / 8_589_934_592
+        self.state / LOWER_BITS
     }
 
     /// The next sample.
