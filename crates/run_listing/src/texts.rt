@@ -5,9 +5,8 @@ ghost use Rattle.run_listing.specs.Steps.{shown};
 ghost use Rattle.run_listing.specs.Texts.{ending, run_line};
 
 use crate::joins::JoinedRun;
-use run_record::tally;
 use std::alloc::{AllocError, Global};
-use summary_text::put_tally;
+use summary_text::{put_tally, run_tally};
 use text_num::put_dec;
 
 /// Appends the text of a run, if it is not run 0, which stands before the first.
@@ -19,7 +18,7 @@ pub(crate) fn put_run(alloc: Global, out: &mut Vec<u8>, run: &JoinedRun) -> Resu
         return Ok(());
     }
     put_run_line(out, run)?;
-    let rows = tally(alloc, &run.kept)?;
+    let rows = run_tally(alloc, &run.kept)?;
     put_tally(out, &rows)
 }
 

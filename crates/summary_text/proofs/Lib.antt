@@ -1,1 +1,2 @@
 -- Lemmas of the summary.
+pub mod SmallRows

@@ -1,2 +1,3 @@
 -- What the contracts of a summary cite.
+pub mod Bounds
 pub mod Summaries

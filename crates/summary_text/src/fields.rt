@@ -1,5 +1,5 @@
 //! A word and a number.
-ghost use Rattle.std.specs.Prelude.{◌≡◌, ◌++◌, ◌+◌, IfOk, OnOk};
+ghost use Rattle.std.specs.Prelude.{◌≡◌, ◌++◌, OnOk};
 ghost use Rattle.summary_text.specs.Summaries.{fates, field};
 
 use std::alloc::AllocError;
@@ -36,14 +36,4 @@ pub(crate) fn put_field(out: &mut Vec<u8>, word: &[u8], n: u128) -> Result<(), A
     out.push(b' ')?;
     put_dec(out, n)?;
     Ok(())
-}
-
-/// The sum; want of memory where 128 bits do not hold it.
-pub(crate) fn sum_of(a: u128, b: u128) -> Result<u128, AllocError>
-    ensures { IfOk result (λ sum. sum ≡ a + b) }
-{
-    match a.checked_add(b) {
-        Some(sum) => Ok(sum),
-        None => Err(AllocError),
-    }
 }

@@ -7,4 +7,4 @@ mod summaries;
 mod tallies;
 
 pub use summaries::summary_text;
-pub use tallies::put_tally;
+pub use tallies::{put_tally, run_tally};

@@ -4,9 +4,9 @@ ghost use Rattle.database_model.specs.Ranges.{IsRecorded};
 ghost use Rattle.summary_text.specs.Summaries.{run_line, stats_line, stats_lines, summary_of};
 
 use crate::fields::put_field;
-use crate::tallies::{put_tally, put_total};
+use crate::tallies::{put_tally, put_total, run_tally};
 use driver_model::Stats;
-use run_record::{RunRecord, tally};
+use run_record::RunRecord;
 use std::alloc::{AllocError, Global};
 use text_num::put_dec;
 
@@ -17,7 +17,7 @@ pub fn summary_text(alloc: Global, kept: &RunRecord, stats: &[Stats]) -> Result<
     requires { IsRecorded kept.now }
     ensures { IfOk result (λ text. text.items ≡ summary_of kept.now stats.now) }
 {
-    let rows = tally(alloc, kept)?;
+    let rows = run_tally(alloc, kept)?;
     let mut out = Vec::new(alloc);
     put_run(&mut out, kept.run)?;
     put_tally(&mut out, &rows)?;
