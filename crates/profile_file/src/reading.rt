@@ -13,6 +13,9 @@ use database_model::{LAST_POSITION, MOST_ROW_COUNT, ProfileRow};
 use std::alloc::Global;
 use var_bytes::{BadField, FormError as ProfileError, field};
 
+/// The bytes of the shortest row: a distance and a count of one byte each.
+const LEAST_ROW_BYTES: usize = 2;
+
 /// Reads a profile in format 1 from all of the bytes.
 pub fn read_profile(alloc: Global, bytes: &[u8]) -> Result<Profile, ProfileError>
     // What is read is what the bytes tell.
@@ -53,7 +56,7 @@ fn rows_of(
     ensures value { Gives (λ x. (x.0, x.1)) result
         (take_form (repeat next_row count []) bytes.now at) }
 {
-    let mut profile = Profile::new(alloc);
+    let mut profile = Profile::with_capacity(alloc, room_for(count, bytes.len()))?;
     let mut at = at;
     let mut last: u64 = 0;
     let mut least: u64 = 0;
@@ -65,6 +68,12 @@ fn rows_of(
         at = after;
     }
     Ok((profile, at))
+}
+
+// the rows to make room for: the count that is told, but no more than so many bytes can hold
+fn room_for(count: u64, bytes: usize) -> usize {
+    let most = bytes / LEAST_ROW_BYTES;
+    usize::try_from(count).map_or(most, |told| told.min(most))
 }
 
 // the row behind a row at the position `last`, at a distance of at least `least`

@@ -18,6 +18,7 @@ pub struct BadField {
 }
 
 /// Reads the field that begins at an index: a number from `low` to `high`, and the index after it.
+#[inline(always)]
 #[tactic(auto, unfolding(crate::specs::Reading::field_at))]
 pub fn field(bytes: &[u8], at: usize, low: u64, high: u64) -> Result<(u64, usize), BadField>
     requires { at ≤ length bytes.now }

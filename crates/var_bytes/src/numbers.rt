@@ -51,6 +51,7 @@ pub fn take_number(bytes: &[u8]) -> Result<(u64, usize), VarBad>
     number(bytes).ok_or(VarBad)
 }
 
+#[inline(always)]
 #[tactic(auto, unfolding(crate::specs::Reading::wide_at, crate::specs::Reading::number_at))]
 pub(crate) fn number(bytes: &[u8]) -> Option<(u64, usize)>
     ensures value { result ≡ number_at bytes.now }

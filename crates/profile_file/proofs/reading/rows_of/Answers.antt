@@ -8,7 +8,7 @@ use Rattle.profile_file.proofs.reading.rows_of.Goals as goal
 
 pub returns-in_err-row-clause-value : goal.returns-in_err-row-clause-value
 returns-in_err-row-clause-value c =
-    let p = err_from_is_err_and c.from_residual.result c.from_residual.ensures.1 in
+    let p = err_from_is_err_and c.from_residual-in_err-row.result c.from_residual-in_err-row.ensures.1 in
     let here = row_read c.loop.profile c.loop.least c.loop.last c.args.bytes.now c.loop.at _ c.loop.invariant.least c.loop.invariant.last c.in_err-row.ensures.value in
     rw (p.1, p.2) (repeat_ends next_row c.args.count c.loop.counter c.loop.profile c.args.bytes.now c.loop.at c.in_err-row.field-0.0.at _ c.loop-test.true here c.loop.invariant.told)
 
