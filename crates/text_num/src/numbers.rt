@@ -102,6 +102,7 @@ pub fn put_hundredths(out: &mut Vec<u8>, n: u32) -> Result<(), AllocError>
 }
 
 // What a digit is worth, or 16.
+#[inline(always)]
 fn worth(c: u8) -> u64
     ensures { result ≡ digit_value c }
 {
@@ -132,6 +133,7 @@ fn is_spelling(base: u64, text: &[u8]) -> bool
     1 <= text.len() && !has_leading_zero(text) && are_digits(base, text)
 }
 
+#[inline(always)]
 fn read_number(base: u64, text: &[u8]) -> Option<u64>
     requires low { 2 ≤ base }
     requires high { base ≤ 16 }
@@ -147,6 +149,7 @@ fn read_number(base: u64, text: &[u8]) -> Option<u64>
 }
 
 // The number that digits write, where each byte is one and the number is below 2^64.
+#[inline(always)]
 fn read_digits(base: u64, text: &[u8]) -> Option<u64>
     requires low { 2 ≤ base }
     requires high { base ≤ 16 }
