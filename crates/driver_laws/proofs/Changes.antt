@@ -10,7 +10,7 @@ use Rattle.driver_model.specs.Lists.{AllOf}
 use Rattle.driver_model.specs.Table.{Table, IsTable, empty_table, add, given_out, needs_room}
 use Rattle.driver_model.specs.Sides.{Side, is_even, side_hear, side_look_table, side_look_buffer}
 use Rattle.driver_model.specs.Driver.{Setup, Driver, take_next, activate}
-use Rattle.driver_model.specs.Invariant.{IsConserved, LossesInOrder, table_entries, active_entries}
+use Rattle.driver_model.specs.Invariant.{IsConserved, FullOrCut, is_active, LossesInOrder, table_entries, active_entries}
 use Rattle.driver_laws.proofs.Lists.{each_map, all_map, all_any}
 use Rattle.driver_laws.proofs.Weights.{times_next}
 use Rattle.driver_laws.proofs.Adds.{out_weight, add_weighs, add_grows}
@@ -21,33 +21,54 @@ use Rattle.driver_laws.proofs.Parts.{exact_same, bounded_from, out_count, tally_
 
 -- the small changes of a turn that take no sample, each of which keeps the invariant
 
--- the bell was heard
-pub kept_hear : (tables : List Sent) (least most : ℕ) (u : Setup) (d : Driver) (v : Side) (w : ℕ) → v.heard ≤ w → Loose tables least most u d v → Loose tables least most u d (side_hear v w)
-kept_hear tables least most u d v w h i = record {
-  conserved = i.conserved;
+-- the driver with the table and the active buffer of another
+abbrev with_held : Driver → Driver → Driver
+with_held d e = record d { table = e.table; pair = record d.pair { active = e.pair.active; active_number = e.pair.active_number } }
+
+-- the side with the calls, the bell, the words and the holds of another
+abbrev with_words : Side → Side → Side
+with_words v w = record v {
+  first = record w.first { handed = v.first.handed };
+  second = record w.second { handed = v.second.handed };
+  third = record w.third { handed = v.third.handed };
+  steps = w.steps;
+  hears = w.hears;
+  heard = w.heard;
+}
+
+-- What only changes the words, the bell and who holds what keeps the invariant, where the entries stay and the holds are
+-- those of the driver; other table batches may cut the short batches.
+pub kept_holds : (tables new : List Sent) (least most fewest fewer : ℕ) (u : Setup) (d e : Driver) (v w : Side)
+    → ((cell : ℕ) (c : Sent) → FullOrCut cell u.size tables c → FullOrCut cell u.size new c)
+    → table_entries e.table ≡ table_entries d.table → active_entries e.pair.active ≡ active_entries d.pair.active
+    → w.first.holds ≡ is_active e.pair 0 → w.second.holds ≡ is_active e.pair 1 → w.third.holds ≡ is_some e.table
+    → IfSome e.table (IsTable v.buckets) → IfSome e.pair.active (λ es. (fewest ≤ length es) × (length es < fewer)) → e.pair.active_number ≤ 1 → v.heard ≤ w.heard
+    → Loose tables least most u d v → Loose new fewest fewer u (with_held d e) (with_words v w)
+kept_holds tables new least most fewest fewer u d e v w more same_table same_active holds0 holds1 holds2 table active number heard i = record {
+  conserved = λ k. omega (arith, i.conserved k, ap (λ (z : List Counted). weight k z) same_table, ap (λ (z : List Counted). weight k z) same_active);
   flushes = i.flushes;
   bounded = i.bounded;
   order0 = i.order0;
   order1 = i.order1;
   order2 = i.order2;
-  sizes0 = i.sizes0;
-  sizes1 = i.sizes1;
+  sizes0 = all_map (FullOrCut 0 u.size tables) (FullOrCut 0 u.size new) (more 0) v.first.handed i.sizes0;
+  sizes1 = all_map (FullOrCut 1 u.size tables) (FullOrCut 1 u.size new) (more 1) v.second.handed i.sizes1;
   fits = i.fits;
   explained = i.explained;
-  holds0 = i.holds0;
-  holds1 = i.holds1;
-  holds2 = i.holds2;
-  table = i.table;
-  active = i.active;
+  holds0 = holds0;
+  holds1 = holds1;
+  holds2 = holds2;
+  table = table;
+  active = active;
   buckets = i.buckets;
   buffer = i.buffer;
   turn = i.turn;
-  number = i.number;
+  number = number;
   next = i.next;
   hands0 = i.hands0;
   hands1 = i.hands1;
   hands2 = i.hands2;
-  at = omega (arith, i.at, due_later u.samples (v.heard / 2) (w / 2) (omega arith));
+  at = omega (arith, i.at, due_later u.samples (v.heard / 2) (w.heard / 2) (omega arith));
   upto0 = i.upto0;
   upto1 = i.upto1;
   upto2 = i.upto2;
@@ -55,98 +76,55 @@ kept_hear tables least most u d v w h i = record {
   rise = i.rise;
   last = i.last;
   heard = omega (arith, i.heard);
-  placed = i.placed;
-  written = i.written;
+  placed = omega (arith, i.placed, ap (λ (z : List Counted). length z) same_table);
+  written = omega (arith, i.written, ap (λ (z : List Counted). length z) same_active);
   all = i.all;
-  exact = exact_same u d (d) v (side_hear v w) u.pace refl refl i.exact;
+  exact = exact_same u d (with_held d e) v (with_words v w) u.pace refl refl i.exact;
   going = i.going;
   answered = i.answered;
 }
+
+-- the bell was heard
+pub kept_hear : (tables : List Sent) (least most : ℕ) (u : Setup) (d : Driver) (v : Side) (w : ℕ) → v.heard ≤ w → Loose tables least most u d v → Loose tables least most u d (side_hear v w)
+kept_hear tables least most u d v w later i =
+    kept_holds tables tables least most least most u d d v (side_hear v w) (λ cell c h. h) refl refl i.holds0 i.holds1 i.holds2 i.table i.active i.number later i
 
 -- the table is back
 pub kept_table_back : (tables : List Sent) (least most : ℕ) (u : Setup) (d : Driver) (v : Side) (word : ℕ) → d.table ≡ None → is_even word ≡ true → Loose tables least most u d v
     → Loose tables least most u (record d { table = Some (empty_table v.buckets v.turn) }) (side_look_table v word)
-kept_table_back tables least most u d v word none even i = record {
-  conserved = λ k. omega (arith, i.conserved k, ap (λ (z : Option Table). weight k (table_entries z)) none, ap (λ (z : List Counted). weight k z) (empty_entries v.buckets v.turn));
-  flushes = i.flushes;
-  bounded = i.bounded;
-  order0 = i.order0;
-  order1 = i.order1;
-  order2 = i.order2;
-  sizes0 = i.sizes0;
-  sizes1 = i.sizes1;
-  fits = i.fits;
-  explained = i.explained;
-  holds0 = i.holds0;
-  holds1 = i.holds1;
-  holds2 = even;
-  table = table_empty v.buckets v.turn i.turn;
-  active = i.active;
-  buckets = i.buckets;
-  buffer = i.buffer;
-  turn = i.turn;
-  number = i.number;
-  next = i.next;
-  hands0 = i.hands0;
-  hands1 = i.hands1;
-  hands2 = i.hands2;
-  at = i.at;
-  upto0 = i.upto0;
-  upto1 = i.upto1;
-  upto2 = i.upto2;
-  in_order = i.in_order;
-  rise = i.rise;
-  last = i.last;
-  heard = i.heard;
-  placed = omega (arith, i.placed, ap (λ (z : Option Table). length (table_entries z)) none, ap (λ (z : List Counted). length z) (empty_entries v.buckets v.turn));
-  written = i.written;
-  all = i.all;
-  exact = exact_same u d (record d { table = Some (empty_table v.buckets v.turn) }) v (side_look_table v word) u.pace refl refl i.exact;
-  going = i.going;
-  answered = i.answered;
-}
+kept_table_back tables least most u d v word none even i =
+    kept_holds tables tables least most least most u d (record d { table = Some (empty_table v.buckets v.turn) }) v (side_look_table v word) (λ cell c h. h)
+    (empty_entries v.buckets v.turn ∙ sym (ap (λ (z : Option Table). table_entries z) none)) refl i.holds0 i.holds1 even (table_empty v.buckets v.turn i.turn) i.active i.number (omega arith) i
 
 -- the table is out
 pub kept_table_out : (tables : List Sent) (least most : ℕ) (u : Setup) (d : Driver) (v : Side) (word : ℕ) → d.table ≡ None → is_even word ≡ false → Loose tables least most u d v → Loose tables least most u d (side_look_table v word)
-kept_table_out tables least most u d v word none odd i = record {
-  conserved = i.conserved;
-  flushes = i.flushes;
-  bounded = i.bounded;
-  order0 = i.order0;
-  order1 = i.order1;
-  order2 = i.order2;
-  sizes0 = i.sizes0;
-  sizes1 = i.sizes1;
-  fits = i.fits;
-  explained = i.explained;
-  holds0 = i.holds0;
-  holds1 = i.holds1;
-  holds2 = odd ∙ sym (ap (λ (z : Option Table). is_some z) none);
-  table = i.table;
-  active = i.active;
-  buckets = i.buckets;
-  buffer = i.buffer;
-  turn = i.turn;
-  number = i.number;
-  next = i.next;
-  hands0 = i.hands0;
-  hands1 = i.hands1;
-  hands2 = i.hands2;
-  at = i.at;
-  upto0 = i.upto0;
-  upto1 = i.upto1;
-  upto2 = i.upto2;
-  in_order = i.in_order;
-  rise = i.rise;
-  last = i.last;
-  heard = i.heard;
-  placed = i.placed;
-  written = i.written;
-  all = i.all;
-  exact = exact_same u d (d) v (side_look_table v word) u.pace refl refl i.exact;
-  going = i.going;
-  answered = i.answered;
-}
+kept_table_out tables least most u d v word none odd i =
+    kept_holds tables tables least most least most u d d v (side_look_table v word) (λ cell c h. h) refl refl i.holds0 i.holds1
+    (odd ∙ sym (ap (λ (z : Option Table). is_some z) none)) i.table i.active i.number (omega arith) i
+
+-- buffer 0 is out
+pub kept_out0 : (tables : List Sent) (least most : ℕ) (u : Setup) (d : Driver) (v : Side) (word : ℕ) → d.pair.active ≡ None → is_even word ≡ false → Loose tables least most u d v → Loose tables least most u d (side_look_buffer v 0 word)
+kept_out0 tables least most u d v word none odd i =
+    kept_holds tables tables least most least most u d d v (side_look_buffer v 0 word) (λ cell c h. h) refl refl
+    (odd ∙ sym (ap (λ (z : Option (List Counted)). is_some z && eqb d.pair.active_number 0) none)) i.holds1 i.holds2 i.table i.active i.number (omega arith) i
+
+-- buffer 0 is back and active
+pub kept_back0 : (tables : List Sent) (least most : ℕ) (u : Setup) (d : Driver) (v : Side) (word : ℕ) → d.pair.active ≡ None → is_even word ≡ true → Loose tables least most u d v → Loose tables 0 v.buffer u (activate d 0) (side_look_buffer v 0 word)
+kept_back0 tables least most u d v word none even i =
+    kept_holds tables tables least most 0 v.buffer u d (activate d 0) v (side_look_buffer v 0 word) (λ cell c h. h) refl (sym (ap (λ (z : Option (List Counted)). active_entries z) none))
+    even (i.holds1 ∙ ap (λ (z : Option (List Counted)). is_some z && eqb d.pair.active_number 1) none) i.holds2 i.table (omega arith, omega (arith, i.buffer)) (omega arith) (omega arith) i
+
+-- buffer 1 is out
+pub kept_out1 : (tables : List Sent) (least most : ℕ) (u : Setup) (d : Driver) (v : Side) (word : ℕ) → d.pair.active ≡ None → is_even word ≡ false → Loose tables least most u d v → Loose tables least most u d (side_look_buffer v 1 word)
+kept_out1 tables least most u d v word none odd i =
+    kept_holds tables tables least most least most u d d v (side_look_buffer v 1 word) (λ cell c h. h) refl refl
+    i.holds0 (odd ∙ sym (ap (λ (z : Option (List Counted)). is_some z && eqb d.pair.active_number 1) none)) i.holds2 i.table i.active i.number (omega arith) i
+
+-- buffer 1 is back and active
+pub kept_back1 : (tables : List Sent) (least most : ℕ) (u : Setup) (d : Driver) (v : Side) (word : ℕ) → d.pair.active ≡ None → is_even word ≡ true → Loose tables least most u d v → Loose tables 0 v.buffer u (activate d 1) (side_look_buffer v 1 word)
+kept_back1 tables least most u d v word none even i =
+    kept_holds tables tables least most 0 v.buffer u d (activate d 1) v (side_look_buffer v 1 word) (λ cell c h. h) refl (sym (ap (λ (z : Option (List Counted)). active_entries z) none))
+    (i.holds0 ∙ ap (λ (z : Option (List Counted)). is_some z && eqb d.pair.active_number 0) none) even i.holds2 i.table (omega arith, omega (arith, i.buffer)) (omega arith) (omega arith) i
 
 -- losses are in order also when more was taken
 pub losses_later : (u : Setup) (d : Driver) (n : ℕ) → d.at ≤ n → LossesInOrder u d → LossesInOrder u (record d { at = n })
@@ -211,171 +189,3 @@ kept_counted tables least most u d v t s rest rising held room left mark i =
       going = i.going;
       answered = i.answered;
     }
-
--- buffer 0 is out
-pub kept_out0 : (tables : List Sent) (least most : ℕ) (u : Setup) (d : Driver) (v : Side) (word : ℕ) → d.pair.active ≡ None → is_even word ≡ false → Loose tables least most u d v → Loose tables least most u d (side_look_buffer v 0 word)
-kept_out0 tables least most u d v word none odd i = record {
-  conserved = i.conserved;
-  flushes = i.flushes;
-  bounded = i.bounded;
-  order0 = i.order0;
-  order1 = i.order1;
-  order2 = i.order2;
-  sizes0 = i.sizes0;
-  sizes1 = i.sizes1;
-  fits = i.fits;
-  explained = i.explained;
-  holds0 = odd ∙ sym (ap (λ (z : Option (List Counted)). is_some z && eqb d.pair.active_number 0) none);
-  holds1 = i.holds1;
-  holds2 = i.holds2;
-  table = i.table;
-  active = i.active;
-  buckets = i.buckets;
-  buffer = i.buffer;
-  turn = i.turn;
-  number = i.number;
-  next = i.next;
-  hands0 = i.hands0;
-  hands1 = i.hands1;
-  hands2 = i.hands2;
-  at = i.at;
-  upto0 = i.upto0;
-  upto1 = i.upto1;
-  upto2 = i.upto2;
-  in_order = i.in_order;
-  rise = i.rise;
-  last = i.last;
-  heard = i.heard;
-  placed = i.placed;
-  written = i.written;
-  all = i.all;
-  exact = exact_same u d (d) v (side_look_buffer v 0 word) u.pace refl refl i.exact;
-  going = i.going;
-  answered = i.answered;
-}
-
--- buffer 0 is back and active
-pub kept_back0 : (tables : List Sent) (least most : ℕ) (u : Setup) (d : Driver) (v : Side) (word : ℕ) → d.pair.active ≡ None → is_even word ≡ true → Loose tables least most u d v → Loose tables 0 v.buffer u (activate d 0) (side_look_buffer v 0 word)
-kept_back0 tables least most u d v word none even i = record {
-  conserved = λ k. omega (arith, i.conserved k, ap (λ (z : Option (List Counted)). weight k (active_entries z)) none);
-  flushes = i.flushes;
-  bounded = i.bounded;
-  order0 = i.order0;
-  order1 = i.order1;
-  order2 = i.order2;
-  sizes0 = i.sizes0;
-  sizes1 = i.sizes1;
-  fits = i.fits;
-  explained = i.explained;
-  holds0 = even;
-  holds1 = i.holds1 ∙ ap (λ (z : Option (List Counted)). is_some z && eqb d.pair.active_number 1) none;
-  holds2 = i.holds2;
-  table = i.table;
-  active = (omega arith, omega (arith, i.buffer));
-  buckets = i.buckets;
-  buffer = i.buffer;
-  turn = i.turn;
-  number = omega arith;
-  next = i.next;
-  hands0 = i.hands0;
-  hands1 = i.hands1;
-  hands2 = i.hands2;
-  at = i.at;
-  upto0 = i.upto0;
-  upto1 = i.upto1;
-  upto2 = i.upto2;
-  in_order = i.in_order;
-  rise = i.rise;
-  last = i.last;
-  heard = i.heard;
-  placed = i.placed;
-  written = omega (arith, i.written, ap (λ (z : Option (List Counted)). length (active_entries z)) none);
-  all = i.all;
-  exact = exact_same u d (activate d 0) v (side_look_buffer v 0 word) u.pace refl refl i.exact;
-  going = i.going;
-  answered = i.answered;
-}
-
--- buffer 1 is out
-pub kept_out1 : (tables : List Sent) (least most : ℕ) (u : Setup) (d : Driver) (v : Side) (word : ℕ) → d.pair.active ≡ None → is_even word ≡ false → Loose tables least most u d v → Loose tables least most u d (side_look_buffer v 1 word)
-kept_out1 tables least most u d v word none odd i = record {
-  conserved = i.conserved;
-  flushes = i.flushes;
-  bounded = i.bounded;
-  order0 = i.order0;
-  order1 = i.order1;
-  order2 = i.order2;
-  sizes0 = i.sizes0;
-  sizes1 = i.sizes1;
-  fits = i.fits;
-  explained = i.explained;
-  holds0 = i.holds0;
-  holds1 = odd ∙ sym (ap (λ (z : Option (List Counted)). is_some z && eqb d.pair.active_number 1) none);
-  holds2 = i.holds2;
-  table = i.table;
-  active = i.active;
-  buckets = i.buckets;
-  buffer = i.buffer;
-  turn = i.turn;
-  number = i.number;
-  next = i.next;
-  hands0 = i.hands0;
-  hands1 = i.hands1;
-  hands2 = i.hands2;
-  at = i.at;
-  upto0 = i.upto0;
-  upto1 = i.upto1;
-  upto2 = i.upto2;
-  in_order = i.in_order;
-  rise = i.rise;
-  last = i.last;
-  heard = i.heard;
-  placed = i.placed;
-  written = i.written;
-  all = i.all;
-  exact = exact_same u d (d) v (side_look_buffer v 1 word) u.pace refl refl i.exact;
-  going = i.going;
-  answered = i.answered;
-}
-
--- buffer 1 is back and active
-pub kept_back1 : (tables : List Sent) (least most : ℕ) (u : Setup) (d : Driver) (v : Side) (word : ℕ) → d.pair.active ≡ None → is_even word ≡ true → Loose tables least most u d v → Loose tables 0 v.buffer u (activate d 1) (side_look_buffer v 1 word)
-kept_back1 tables least most u d v word none even i = record {
-  conserved = λ k. omega (arith, i.conserved k, ap (λ (z : Option (List Counted)). weight k (active_entries z)) none);
-  flushes = i.flushes;
-  bounded = i.bounded;
-  order0 = i.order0;
-  order1 = i.order1;
-  order2 = i.order2;
-  sizes0 = i.sizes0;
-  sizes1 = i.sizes1;
-  fits = i.fits;
-  explained = i.explained;
-  holds0 = i.holds0 ∙ ap (λ (z : Option (List Counted)). is_some z && eqb d.pair.active_number 0) none;
-  holds1 = even;
-  holds2 = i.holds2;
-  table = i.table;
-  active = (omega arith, omega (arith, i.buffer));
-  buckets = i.buckets;
-  buffer = i.buffer;
-  turn = i.turn;
-  number = omega arith;
-  next = i.next;
-  hands0 = i.hands0;
-  hands1 = i.hands1;
-  hands2 = i.hands2;
-  at = i.at;
-  upto0 = i.upto0;
-  upto1 = i.upto1;
-  upto2 = i.upto2;
-  in_order = i.in_order;
-  rise = i.rise;
-  last = i.last;
-  heard = i.heard;
-  placed = i.placed;
-  written = omega (arith, i.written, ap (λ (z : Option (List Counted)). length (active_entries z)) none);
-  all = i.all;
-  exact = exact_same u d (activate d 1) v (side_look_buffer v 1 word) u.pace refl refl i.exact;
-  going = i.going;
-  answered = i.answered;
-}

@@ -1,6 +1,7 @@
-use Rattle.std.proofs.Common.{◌≡◌, ℕ, zero, suc, ◌<◌, ◌≤◌, List, [], ◌∷◌, ◌++◌, length, drop, refl, sym, ap, subst, arith, inl, inr, append_assoc, Some}
+use Rattle.std.proofs.Common.{◌≡◌, ℕ, zero, suc, ◌%◌, ◌<◌, ◌≤◌, List, [], ◌∷◌, ◌++◌, length, drop, refl, sym, ap, subst, arith, inl, inr, append_assoc, false, Some, eqb}
 use Rattle.std.specs.Prelude.{slice_get, IsSomeAnd, IfSome}
 use Rattle.driver_model.specs.Lists.{EachFrom, AllOf, SomeOf}
+use Rattle.driver_model.specs.Sides.{is_even}
 
 -- nothing after a list leaves it
 pub append-nil : {A : Type 0} (xs : List A) → xs ++ [] ≡ xs
@@ -119,3 +120,7 @@ pub by_number : (P : ℕ → Type 0) (n : ℕ) → n ≤ 1 → P 0 → P 1 → P
 by_number P zero l f g = f
 by_number P (suc zero) l f g = g
 by_number P (suc (suc n)) l f g = absurd (omega arith)
+
+-- an odd word is one
+pub odd_of : (w : ℕ) → is_even w ≡ false → w % 2 ≡ 1
+odd_of w = by_number (λ (n : ℕ). eqb n 0 ≡ false → n ≡ 1) (w % 2) (omega arith) (λ h. cc) (λ h. refl)

@@ -1,6 +1,6 @@
-use Rattle.std.proofs.Common.{◌≡◌, ℕ, zero, suc, ◌+◌, ◌/◌, ◌%◌, ◌<◌, ◌≤◌, List, [], ◌∷◌, ◌++◌, length, drop, refl, sym, ◌∙◌, ap, subst, arith, inl, inr, true, false, Some, None, Option, leb, ltb, eqb, ◌&&◌, ltb-true, ltb-false, eqb-true, eq-eqb}
+use Rattle.std.proofs.Common.{◌≡◌, ℕ, ◌+◌, ◌/◌, ◌%◌, ◌≤◌, List, [], ◌∷◌, ◌++◌, length, drop, refl, sym, ◌∙◌, ap, subst, inl, inr, true, false, Some, None, Option, leb, ltb, eqb, ◌&&◌, ltb-true, ltb-false, eqb-true, eq-eqb}
 use Rattle.std.specs.Prelude.{is_some}
-use Rattle.std.proofs.lemmas.Bool.{cond_both, cond-true, cond-false, cases_eq, both_ways, and_parts}
+use Rattle.std.proofs.lemmas.Bool.{cond_both, cond-true, cond-false, both_ways, and_parts}
 use Rattle.sample_key.specs.Counted.{Counted}
 use Rattle.sample_key.specs.Sent.{Sent}
 use Rattle.sample_key.specs.declared.keys.Key.{Key}
@@ -12,7 +12,7 @@ use Rattle.driver_model.specs.Sides.{Side, is_even, slot_handed, room_after, sid
 use Rattle.driver_model.specs.Driver.{Two, Words, ends_with, regain, hand_active, answer_with, look_other, look_both, find_buffer, push, write, write_sample, take_sample, next_sample, after_regain, turn_of, Setup, Driver, World, Turned, take_next, entry_to_write, needs_write, activate, pair_handed, buffer_header, hand_buffer, hand_table, may_answer, answers_now}
 use Rattle.driver_model.specs.declared.answers.Turn.TheVariants.{Took, Held, Answered, Done}
 use Rattle.driver_laws.specs.Causes.{table_after, with_table, HasBuffer, CauseAt, CauseOf}
-use Rattle.driver_laws.proofs.Lists.{by_number}
+use Rattle.driver_laws.proofs.Lists.{by_number, odd_of}
 use Rattle.driver_laws.proofs.Lefts.{after_left, hears_turn}
 
 -- the causes, along the definition of the turn
@@ -37,14 +37,6 @@ push_words u y k es =
 -- the word of a buffer that is back
 even_of : (w : ℕ) → is_even w ≡ true → w % 2 ≡ 0
 even_of w h = eqb-true (w % 2) 0 h
-
-odd_of : (w : ℕ) → is_even w ≡ false → w % 2 ≡ 1
-odd_of w h = elim (cases_eq (w % 2) 0) [ inl e ↦ absurd (both_ways (eqb (w % 2) 0) h (eq-eqb (w % 2) 0 e)) | inr e ↦ odd_here (w % 2) e (omega arith) ]
-  where
-    odd_here : (n : ℕ) → (n ≡ 0 → ⊥) → n < 2 → n ≡ 1
-    odd_here zero e l = absurd (e refl)
-    odd_here (suc zero) e l = refl
-    odd_here (suc (suc n)) e l = absurd (omega arith)
 
 module _ (u : Setup) (d : Driver) (v : Side) (n : ℕ) (s : Marked) (rest : List Marked) (none : answers_now u d n ≡ false) (left : drop d.at u.samples ≡ s ∷ rest)
     (mark : s.mark ≤ n / 2) (needs : needs_write s.key d.table ≡ true) where

@@ -1,6 +1,6 @@
-use Rattle.std.proofs.Common.{◌≡◌, ℕ, zero, suc, ◌+◌, ◌*◌, ◌/◌, ◌%◌, ◌<◌, ◌≤◌, List, [], ◌∷◌, ◌++◌, length, drop, refl, sym, ◌∙◌, ap, subst, arith, inl, inr, true, false, not, cond, Some, None, Option, leb, ltb, eqb, ◌&&◌, ◌||◌, leb-true, leb-false, ltb-true, ltb-false, eqb-true, eq-eqb}
+use Rattle.std.proofs.Common.{◌≡◌, ℕ, ◌+◌, ◌*◌, ◌/◌, ◌%◌, ◌<◌, ◌≤◌, List, [], ◌∷◌, ◌++◌, length, drop, refl, sym, ◌∙◌, ap, subst, arith, inl, inr, true, false, not, cond, Some, None, Option, leb, ltb, eqb, ◌&&◌, ◌||◌, leb-true, leb-false, ltb-true, ltb-false, eqb-true}
 use Rattle.std.specs.Prelude.{is_some, IfSome}
-use Rattle.std.proofs.lemmas.Bool.{cond_both, cases_eq, both_ways, and_parts}
+use Rattle.std.proofs.lemmas.Bool.{cond_both, and_parts}
 use Rattle.sample_key.specs.Counted.{Counted}
 use Rattle.sample_key.specs.Marks.{due}
 use Rattle.sample_key.specs.Sent.{Sent}
@@ -13,9 +13,9 @@ use Rattle.driver_model.specs.Sides.{Side, is_even, slot_looked, slot_handed, ro
 use Rattle.driver_model.specs.Driver.{Two, Words, ends_with, regain, hand_active, answer_with, other, word_at, look_other, look_both, find_buffer, write, write_sample, take_sample, next_sample, after_regain, turn_of, Setup, Driver, World, Turned, take_next, entry_to_write, needs_write, activate, pair_handed, buffer_header, table_header, hand_buffer, hand_table, lose, may_answer, answers_now}
 use Rattle.driver_model.specs.Invariant.{IsSetup, FullOrCut, CutBy, DriverInvariant}
 use Rattle.driver_model.specs.declared.answers.Turn.TheVariants.{Took, Held, Done}
-use Rattle.driver_laws.proofs.Lists.{by_number, all_map, some_push, some_last}
+use Rattle.driver_laws.proofs.Lists.{by_number, odd_of, some_push, some_last}
 use Rattle.driver_laws.proofs.Loose.{Loose, loose_of, strict_of}
-use Rattle.driver_laws.proofs.Changes.{kept_hear, kept_table_back, kept_table_out, kept_counted, kept_out0, kept_out1, kept_back0, kept_back1}
+use Rattle.driver_laws.proofs.Changes.{kept_holds, kept_hear, kept_table_back, kept_table_out, kept_counted, kept_out0, kept_out1, kept_back0, kept_back1}
 use Rattle.driver_laws.proofs.Pushes.{kept_pushed, kept_direct, kept_hand0, kept_hand1}
 use Rattle.driver_laws.proofs.Ends.{kept_lost, closed_by}
 use Rattle.driver_laws.specs.Turns.{AreFairWords, KeepsAfter}
@@ -27,137 +27,13 @@ cut_later : (u : Setup) (x : Sent) (tables : List Sent) (cell : ℕ) (c : Sent) 
 cut_later u x tables cell c (some, few, inl full) = (some, few, inl full)
 cut_later u x tables cell c (some, few, inr cut) = (some, few, inr (some_push (CutBy cell c) tables x cut))
 
--- one table batch more may cut
-widened : (tables : List Sent) (least most : ℕ) (u : Setup) (d : Driver) (v : Side) (x : Sent) → Loose tables least most u d v → Loose (tables ++ x ∷ []) least most u d v
-widened tables least most u d v x i = record {
-  conserved = i.conserved;
-  flushes = i.flushes;
-  bounded = i.bounded;
-  order0 = i.order0;
-  order1 = i.order1;
-  order2 = i.order2;
-  sizes0 = all_map (FullOrCut 0 u.size tables) (FullOrCut 0 u.size (tables ++ x ∷ [])) (cut_later u x tables 0) v.first.handed i.sizes0;
-  sizes1 = all_map (FullOrCut 1 u.size tables) (FullOrCut 1 u.size (tables ++ x ∷ [])) (cut_later u x tables 1) v.second.handed i.sizes1;
-  fits = i.fits;
-  explained = i.explained;
-  holds0 = i.holds0;
-  holds1 = i.holds1;
-  holds2 = i.holds2;
-  table = i.table;
-  active = i.active;
-  buckets = i.buckets;
-  buffer = i.buffer;
-  turn = i.turn;
-  number = i.number;
-  next = i.next;
-  hands0 = i.hands0;
-  hands1 = i.hands1;
-  hands2 = i.hands2;
-  at = i.at;
-  upto0 = i.upto0;
-  upto1 = i.upto1;
-  upto2 = i.upto2;
-  in_order = i.in_order;
-  rise = i.rise;
-  last = i.last;
-  heard = i.heard;
-  placed = i.placed;
-  written = i.written;
-  all = i.all;
-  exact = i.exact;
-  going = i.going;
-  answered = i.answered;
-}
-
--- the active buffer is not full after all
-narrowed : (tables : List Sent) (least most fewer : ℕ) (u : Setup) (d : Driver) (v : Side)
-    → (IfSome d.pair.active (λ es. (least ≤ length es) × (length es < most)) → IfSome d.pair.active (λ es. (least ≤ length es) × (length es < fewer)))
-    → Loose tables least most u d v → Loose tables least fewer u d v
-narrowed tables least most fewer u d v within i = record {
-  conserved = i.conserved;
-  flushes = i.flushes;
-  bounded = i.bounded;
-  order0 = i.order0;
-  order1 = i.order1;
-  order2 = i.order2;
-  sizes0 = i.sizes0;
-  sizes1 = i.sizes1;
-  fits = i.fits;
-  explained = i.explained;
-  holds0 = i.holds0;
-  holds1 = i.holds1;
-  holds2 = i.holds2;
-  table = i.table;
-  active = within i.active;
-  buckets = i.buckets;
-  buffer = i.buffer;
-  turn = i.turn;
-  number = i.number;
-  next = i.next;
-  hands0 = i.hands0;
-  hands1 = i.hands1;
-  hands2 = i.hands2;
-  at = i.at;
-  upto0 = i.upto0;
-  upto1 = i.upto1;
-  upto2 = i.upto2;
-  in_order = i.in_order;
-  rise = i.rise;
-  last = i.last;
-  heard = i.heard;
-  placed = i.placed;
-  written = i.written;
-  all = i.all;
-  exact = i.exact;
-  going = i.going;
-  answered = i.answered;
-}
-
-loose_active : (n : ℕ) (a : Option (List Counted)) → IfSome a (λ es. (1 ≤ length es) × (length es < n)) → IfSome a (λ es. (0 ≤ length es) × (length es < n))
-loose_active n None h = tt
-loose_active n (Some es) h = (omega arith, h.1)
-
--- the active buffer may be empty
-loosened : (tables : List Sent) (most : ℕ) (u : Setup) (d : Driver) (v : Side) → Loose tables 1 most u d v → Loose tables 0 most u d v
-loosened tables most u d v i = record {
-  conserved = i.conserved;
-  flushes = i.flushes;
-  bounded = i.bounded;
-  order0 = i.order0;
-  order1 = i.order1;
-  order2 = i.order2;
-  sizes0 = i.sizes0;
-  sizes1 = i.sizes1;
-  fits = i.fits;
-  explained = i.explained;
-  holds0 = i.holds0;
-  holds1 = i.holds1;
-  holds2 = i.holds2;
-  table = i.table;
-  active = loose_active most d.pair.active i.active;
-  buckets = i.buckets;
-  buffer = i.buffer;
-  turn = i.turn;
-  number = i.number;
-  next = i.next;
-  hands0 = i.hands0;
-  hands1 = i.hands1;
-  hands2 = i.hands2;
-  at = i.at;
-  upto0 = i.upto0;
-  upto1 = i.upto1;
-  upto2 = i.upto2;
-  in_order = i.in_order;
-  rise = i.rise;
-  last = i.last;
-  heard = i.heard;
-  placed = i.placed;
-  written = i.written;
-  all = i.all;
-  exact = i.exact;
-  going = i.going;
-  answered = i.answered;
-}
+-- another list of table batches may cut, and the active buffer has at least and fewer than other numbers of entries
+resized : (tables new : List Sent) (least most fewest fewer : ℕ) (u : Setup) (d : Driver) (v : Side)
+    → ((cell : ℕ) (c : Sent) → FullOrCut cell u.size tables c → FullOrCut cell u.size new c)
+    → IfSome d.pair.active (λ es. (fewest ≤ length es) × (length es < fewer))
+    → Loose tables least most u d v → Loose new fewest fewer u d v
+resized tables new least most fewest fewer u d v more active i =
+    kept_holds tables new least most fewest fewer u d d v v more refl refl i.holds0 i.holds1 i.holds2 i.table active i.number (omega arith) i
 
 -- the table was looked for where it was not held
 regain_kept : (u : Setup) (d : Driver) (v : Side) (word : ℕ) (o : Option Table) → d.table ≡ o → Loose v.third.handed 1 v.buffer u d v
@@ -180,7 +56,8 @@ answer_active : (u : Setup) (d : Driver) (v : Side) (w : ℕ) (t : Table) (a : O
     → DriverInvariant u (hand_table u (hand_active u d v a).driver (hand_active u d v a).side w t).driver (hand_table u (hand_active u d v a).driver (hand_active u d v a).side w t).side
 answer_active u d v w t None setup size active held here odd above may i =
     closed_by v.buffer u d v w t setup active held here odd above may
-    (widened v.third.handed 1 v.buffer u d v (record { note = table_header u d w; entries = entries_in t }) i)
+    (resized v.third.handed (v.third.handed ++ (record { note = table_header u d w; entries = entries_in t }) ∷ []) 1 v.buffer 1 v.buffer u d v
+    (λ cell c. cut_later u (record { note = table_header u d w; entries = entries_in t }) v.third.handed cell c) i.active i)
 answer_active u d v w t (Some es) setup size active held here odd above may i =
     let has : (1 ≤ length es) × (length es < v.buffer) = subst (λ (z : Option (List Counted)). IfSome z (λ es. (1 ≤ length es) × (length es < v.buffer))) active i.active in
     by_number (λ (b : ℕ). d.pair.active_number ≡ b → DriverInvariant u (hand_table u (hand_buffer u d v b es).driver (hand_buffer u d v b es).side w t).driver (hand_table u (hand_buffer u d v b es).driver (hand_buffer u d v b es).side w t).side)
@@ -231,24 +108,24 @@ push_kept u d v k full o size same i b number =
     (kept_hand0 v.third.handed v.third.handed 1 (v.buffer + 1) u e v full (λ cell c h. h) refl (sym number ∙ zero_b) i.active.0 (omega arith) (inl exact) i))
     (λ one_b. strict_of u (hand_buffer u e v 1 full).driver (hand_buffer u e v 1 full).side
     (kept_hand1 v.third.handed v.third.handed 1 (v.buffer + 1) u e v full (λ cell c h. h) refl (sym number ∙ one_b) i.active.0 (omega arith) (inl exact) i)) refl)
-    (λ partly. strict_of u e v (narrowed v.third.handed 1 (v.buffer + 1) v.buffer u e v (λ h. (h.0, omega (arith, leb-false u.size (length full) partly))) i))
+    (λ partly. strict_of u e v (resized v.third.handed v.third.handed 1 (v.buffer + 1) 1 v.buffer u e v (λ cell c h. h) (i.active.0, omega (arith, leb-false u.size (length full) partly)) i))
 
 -- the sample is written to the active buffer
-write_active : (u : Setup) (d : Driver) (v : Side) (s : Marked) (rest : List Marked) (es : List Counted) (o : Option Table) → IsSetup u → u.size ≡ v.buffer
+write_active : (least : ℕ) (u : Setup) (d : Driver) (v : Side) (s : Marked) (rest : List Marked) (es : List Counted) (o : Option Table) → IsSetup u → u.size ≡ v.buffer
     → d.pair.active ≡ Some es → d.table ≡ o → needs_write s.key o ≡ true → drop d.at u.samples ≡ s ∷ rest → s.mark ≤ v.heard / 2
-    → Loose v.third.handed 0 v.buffer u d v
+    → Loose v.third.handed least v.buffer u d v
     → DriverInvariant u (cond (leb u.size (length (es ++ entry_to_write s.key o ∷ []))) (hand_buffer u (take_next d s.key o) v (take_next d s.key o).pair.active_number (es ++ entry_to_write s.key o ∷ []))
     (record { driver = record (take_next d s.key o) { pair = record (take_next d s.key o).pair { active = Some (es ++ entry_to_write s.key o ∷ []) } }; side = v })).driver
     (cond (leb u.size (length (es ++ entry_to_write s.key o ∷ []))) (hand_buffer u (take_next d s.key o) v (take_next d s.key o).pair.active_number (es ++ entry_to_write s.key o ∷ []))
     (record { driver = record (take_next d s.key o) { pair = record (take_next d s.key o).pair { active = Some (es ++ entry_to_write s.key o ∷ []) } }; side = v })).side
-write_active u d v s rest es (Some t) setup size active held needs left mark i =
-    let few : (0 ≤ length es) × (length es < v.buffer) = subst (λ (z : Option (List Counted)). IfSome z (λ es. (0 ≤ length es) × (length es < v.buffer))) active i.active in
+write_active least u d v s rest es (Some t) setup size active held needs left mark i =
+    let few : (least ≤ length es) × (length es < v.buffer) = subst (λ (z : Option (List Counted)). IfSome z (λ es. (least ≤ length es) × (length es < v.buffer))) active i.active in
     push_kept u d v s.key (es ++ entry_to_write s.key (Some t) ∷ []) (Some t) size refl
-    (kept_pushed v.third.handed 0 v.buffer u d v t es s rest setup.rising held needs active few.1 left mark i) d.pair.active_number refl
-write_active u d v s rest es None setup size active held needs left mark i =
-    let few : (0 ≤ length es) × (length es < v.buffer) = subst (λ (z : Option (List Counted)). IfSome z (λ es. (0 ≤ length es) × (length es < v.buffer))) active i.active in
+    (kept_pushed v.third.handed least v.buffer u d v t es s rest setup.rising held needs active few.1 left mark i) d.pair.active_number refl
+write_active least u d v s rest es None setup size active held needs left mark i =
+    let few : (least ≤ length es) × (length es < v.buffer) = subst (λ (z : Option (List Counted)). IfSome z (λ es. (least ≤ length es) × (length es < v.buffer))) active i.active in
     push_kept u d v s.key (es ++ entry_to_write s.key None ∷ []) None size refl
-    (kept_direct v.third.handed 0 v.buffer u d v es s rest setup.rising held active few.1 left mark i) d.pair.active_number refl
+    (kept_direct v.third.handed least v.buffer u d v es s rest setup.rising held active few.1 left mark i) d.pair.active_number refl
 
 -- no buffer is back: the sample is lost or held
 write_none : (u : Setup) (d : Driver) (v : Side) (s : Marked) (rest : List Marked) (p : Pace) → IsSetup u → u.pace ≡ p → drop d.at u.samples ≡ s ∷ rest → s.mark ≤ v.heard / 2
@@ -258,15 +135,6 @@ write_none u d v s rest Free setup pace left mark odd0 fair0 odd1 fair1 i =
     strict_of u (lose (record { driver = d; side = v }) s.key).driver v
     (kept_lost v.third.handed 1 v.buffer u d v s rest setup.rising pace left mark odd0 fair0 odd1 fair1 i)
 write_none u d v s rest Exact setup pace left mark odd0 fair0 odd1 fair1 i = strict_of u d v i
-
--- an odd word is one
-odd_of : (w : ℕ) → is_even w ≡ false → w % 2 ≡ 1
-odd_of w h = elim (cases_eq (w % 2) 0) [ inl e ↦ absurd (both_ways (eqb (w % 2) 0) h (eq-eqb (w % 2) 0 e)) | inr e ↦ odd_here (w % 2) e (omega arith) ]
-  where
-    odd_here : (n : ℕ) → (n ≡ 0 → ⊥) → n < 2 → n ≡ 1
-    odd_here zero e l = absurd (e refl)
-    odd_here (suc zero) e l = refl
-    odd_here (suc (suc n)) e l = absurd (omega arith)
 
 -- what a turn that writes must keep, from where the buffers were looked for
 abbrev Writes : Setup → Key → World → Type 0
@@ -278,14 +146,14 @@ look_from0 : (u : Setup) (h : Two) (d : Driver) (v : Side) (s : Marked) (rest : 
 look_from0 u h d v s rest setup size fair none needs left mark i =
     cond_both (is_even h.first) (record { driver = activate d 0; side = side_look_buffer v 0 h.first }) (look_other h d (side_look_buffer v 0 h.first) 1)
     (Writes u s.key)
-    (λ even. write_active u (activate d 0) (side_look_buffer v 0 h.first) s rest [] d.table setup size refl refl needs left mark
+    (λ even. write_active 0 u (activate d 0) (side_look_buffer v 0 h.first) s rest [] d.table setup size refl refl needs left mark
     (kept_back0 v.third.handed 1 v.buffer u d v h.first none even i))
     (λ odd0.
     let v1 = side_look_buffer v 0 h.first in
     let i1 : Loose v.third.handed 1 v.buffer u d v1 = kept_out0 v.third.handed 1 v.buffer u d v h.first none odd0 i in
     cond_both (is_even h.second) (activate d 1) d
     (λ (z : Driver). Writes u s.key (record { driver = z; side = side_look_buffer v1 1 h.second }))
-    (λ even. write_active u (activate d 1) (side_look_buffer v1 1 h.second) s rest [] d.table setup size refl refl needs left mark
+    (λ even. write_active 0 u (activate d 1) (side_look_buffer v1 1 h.second) s rest [] d.table setup size refl refl needs left mark
     (kept_back1 v.third.handed 1 v.buffer u d v1 h.second none even i1))
     (λ odd1. subst (λ (a : Option (List Counted)). KeepsAfter u (write u (record { driver = d; side = side_look_buffer v1 1 h.second }) s.key u.pace a)) (sym none)
     (write_none u d (side_look_buffer v1 1 h.second) s rest u.pace setup refl left mark (odd_of h.first odd0) (fair.0 odd0) (odd_of h.second odd1) (fair.1 odd1)
@@ -297,14 +165,14 @@ look_from1 : (u : Setup) (h : Two) (d : Driver) (v : Side) (s : Marked) (rest : 
 look_from1 u h d v s rest setup size fair none needs left mark i =
     cond_both (is_even h.second) (record { driver = activate d 1; side = side_look_buffer v 1 h.second }) (look_other h d (side_look_buffer v 1 h.second) 0)
     (Writes u s.key)
-    (λ even. write_active u (activate d 1) (side_look_buffer v 1 h.second) s rest [] d.table setup size refl refl needs left mark
+    (λ even. write_active 0 u (activate d 1) (side_look_buffer v 1 h.second) s rest [] d.table setup size refl refl needs left mark
     (kept_back1 v.third.handed 1 v.buffer u d v h.second none even i))
     (λ odd1.
     let v1 = side_look_buffer v 1 h.second in
     let i1 : Loose v.third.handed 1 v.buffer u d v1 = kept_out1 v.third.handed 1 v.buffer u d v h.second none odd1 i in
     cond_both (is_even h.first) (activate d 0) d
     (λ (z : Driver). Writes u s.key (record { driver = z; side = side_look_buffer v1 0 h.first }))
-    (λ even. write_active u (activate d 0) (side_look_buffer v1 0 h.first) s rest [] d.table setup size refl refl needs left mark
+    (λ even. write_active 0 u (activate d 0) (side_look_buffer v1 0 h.first) s rest [] d.table setup size refl refl needs left mark
     (kept_back0 v.third.handed 1 v.buffer u d v1 h.first none even i1))
     (λ odd0. subst (λ (a : Option (List Counted)). KeepsAfter u (write u (record { driver = d; side = side_look_buffer v1 0 h.first }) s.key u.pace a)) (sym none)
     (write_none u d (side_look_buffer v1 0 h.first) s rest u.pace setup refl left mark (odd_of h.first odd0) (fair.0 odd0) (odd_of h.second odd1) (fair.1 odd1)
@@ -316,7 +184,7 @@ write_kept : (u : Setup) (h : Two) (d : Driver) (v : Side) (s : Marked) (rest : 
     → Writes u s.key (find_buffer h d v a)
 write_kept u h d v s rest (Some es) setup size fair active needs left mark i =
     subst (λ (a : Option (List Counted)). KeepsAfter u (write u (record { driver = d; side = v }) s.key u.pace a)) (sym active)
-    (write_active u d v s rest es d.table setup size active refl needs left mark (loosened v.third.handed v.buffer u d v i))
+    (write_active 1 u d v s rest es d.table setup size active refl needs left mark i)
 write_kept u h d v s rest None setup size fair active needs left mark i =
     by_number (λ (b : ℕ). Writes u s.key (look_both h d v b)) d.pair.next i.next
     (look_from0 u h d v s rest setup size fair active needs left mark i)
