@@ -1,9 +1,10 @@
-use Rattle.std.proofs.Common.{◌≡◌, ℕ, ◌+◌, ◌/◌, ◌<◌, ◌≤◌, List, [], ◌∷◌, length, drop, refl, sym, ◌∙◌, ap, subst, arith, true, false, Some, None, Option, eqb, ◌&&◌}
+use Rattle.std.proofs.Common.{◌≡◌, ℕ, ◌+◌, ◌/◌, ◌<◌, ◌≤◌, List, [], ◌∷◌, length, drop, refl, sym, ◌∙◌, ap, subst, arith, Bool, true, false, Some, None, Option, eqb, ◌&&◌}
 use Rattle.std.specs.Prelude.{is_some, IfSome, IsSomeAnd, slice_get}
-use Rattle.sample_key.specs.Bags.{weight}
+use Rattle.sample_key.specs.Bags.{once, weight}
 use Rattle.sample_key.specs.Counted.{Counted}
 use Rattle.sample_key.specs.Marks.{IsRising}
 use Rattle.sample_key.specs.Sent.{Sent}
+use Rattle.sample_key.specs.declared.keys.Key.{Key}
 use Rattle.sample_key.specs.declared.keys.Marked.{Marked}
 use Rattle.sample_key.specs.declared.losses.Loss.{Loss}
 use Rattle.driver_model.specs.Lists.{AllOf}
@@ -19,7 +20,7 @@ use Rattle.driver_laws.proofs.Marks.{due_later, due_next}
 use Rattle.driver_laws.proofs.Loose.{Loose}
 use Rattle.driver_laws.proofs.Parts.{exact_same, bounded_from, out_count, tally_all, tally_placed, tally_written, out_none}
 
--- the small changes of a turn that take no sample, each of which keeps the invariant
+-- the small changes of a turn, each of which keeps the invariant
 
 -- the driver with the table and the active buffer of another
 abbrev with_held : Driver → Driver → Driver
@@ -133,27 +134,27 @@ losses_later u d n l h = each_map
     (λ done m. (m.index < n) × AllOf (λ o. o.index < m.index) done × IsSomeAnd (slice_get u.samples m.index) (λ s. m.event ≡ s.key.event))
     (λ m. Unit {0}) (λ done m r g. (omega (arith, g.0), g.1, g.2)) [] d.losses (all_any (λ (m : Loss). Unit {0}) (λ m. tt) d.losses) h
 
--- the table counted a sample
-pub kept_counted : (tables : List Sent) (least most : ℕ) (u : Setup) (d : Driver) (v : Side) (t : Table) (s : Marked) (rest : List Marked) → IsRising u.samples → d.table ≡ Some t → needs_room t s.key ≡ false
-    → drop d.at u.samples ≡ s ∷ rest → s.mark ≤ v.heard / 2 → Loose tables least most u d v → Loose tables least most u (take_next d s.key (Some t)) v
-kept_counted tables least most u d v t s rest rising held room left mark i =
-    let k = s.key in
-    let is : IsTable v.buckets t = subst (λ (z : Option Table). IfSome z (IsTable v.buckets)) held i.table in
-    let some : 0 < length t.rows = omega (arith, is.size, i.buckets) in
-    let out : given_out (add t k).added ≡ None = out_none (given_out (add t k).added) room in
-    let conserved : IsConserved u (take_next d k (Some t)) v =
-    λ j. omega (
-      arith,
-      i.conserved j,
-      ap (λ (z : Option Table). weight j (table_entries z)) held,
-      add_weighs j k t some is.ways,
-      ap (λ (z : Option Counted). out_weight j z) out,
-      times_next j d.at u.samples s rest left,
-    ) in
+-- the driver after it took a sample, with the table, the active buffer and the statistics of another
+abbrev with_taken : Driver → Driver → Driver
+with_taken d e = record d { at = d.at + 1; table = e.table; pair = record d.pair { active = e.pair.active }; stats = e.stats }
+
+-- Where a sample that is due was taken, the invariant is kept if the table and the active buffer gained that sample alone,
+-- the same values are held, and the statistics follow.
+pub kept_taken : (tables : List Sent) (least most fewest fewer : ℕ) (u : Setup) (d e : Driver) (v : Side) (s : Marked) (rest : List Marked)
+    → IsRising u.samples → drop d.at u.samples ≡ s ∷ rest → s.mark ≤ v.heard / 2
+    → is_some d.table ≡ is_some e.table → is_some d.pair.active ≡ is_some e.pair.active
+    → IfSome e.table (IsTable v.buckets) → IfSome e.pair.active (λ es. (fewest ≤ length es) × (length es < fewer))
+    → ((k : Key) → weight k (table_entries e.table) + weight k (active_entries e.pair.active) ≡ weight k (table_entries d.table) + weight k (active_entries d.pair.active) + once k s.key)
+    → e.stats.placed + length (table_entries d.table) ≡ d.stats.placed + length (table_entries e.table)
+    → e.stats.evicted + e.stats.spilt + e.stats.direct + length (active_entries d.pair.active) ≡ d.stats.evicted + d.stats.spilt + d.stats.direct + length (active_entries e.pair.active)
+    → e.stats.folded + e.stats.placed + e.stats.evicted + e.stats.spilt + e.stats.direct ≡ d.stats.folded + d.stats.placed + d.stats.evicted + d.stats.spilt + d.stats.direct + 1
+    → Loose tables least most u d v → Loose tables fewest fewer u (with_taken d e) v
+kept_taken tables least most fewest fewer u d e v s rest rising left mark holds_table holds_active table active gained placed written all i =
+    let conserved : IsConserved u (with_taken d e) v = λ k. omega (arith, i.conserved k, gained k, times_next k d.at u.samples s rest left) in
     record {
       conserved = conserved;
       flushes = i.flushes;
-      bounded = bounded_from u (take_next d k (Some t)) v conserved (λ n j l. i.bounded n j (omega arith));
+      bounded = bounded_from u (with_taken d e) v conserved (λ n k l. i.bounded n k (omega arith));
       order0 = i.order0;
       order1 = i.order1;
       order2 = i.order2;
@@ -161,11 +162,11 @@ kept_counted tables least most u d v t s rest rising held room left mark i =
       sizes1 = i.sizes1;
       fits = i.fits;
       explained = i.explained;
-      holds0 = i.holds0;
-      holds1 = i.holds1;
-      holds2 = i.holds2 ∙ ap (λ (z : Option Table). is_some z) held;
-      table = table_kept v.buckets k t i.buckets is;
-      active = i.active;
+      holds0 = i.holds0 ∙ ap (λ (z : Bool). z && eqb d.pair.active_number 0) holds_active;
+      holds1 = i.holds1 ∙ ap (λ (z : Bool). z && eqb d.pair.active_number 1) holds_active;
+      holds2 = i.holds2 ∙ holds_table;
+      table = table;
+      active = active;
       buckets = i.buckets;
       buffer = i.buffer;
       turn = i.turn;
@@ -182,10 +183,24 @@ kept_counted tables least most u d v t s rest rising held room left mark i =
       rise = i.rise;
       last = i.last;
       heard = i.heard;
-      placed = omega (arith, i.placed, tally_placed d.stats (add t k).added, add_grows k t some, ap (λ (z : Option Table). length (table_entries z)) held);
-      written = omega (arith, i.written, tally_written d.stats (add t k).added, ap (λ (z : Option Counted). out_count z) out);
-      all = omega (arith, i.all, tally_all d.stats (Some (add t k).added));
-      exact = exact_same u d (take_next d k (Some t)) v (v) u.pace refl refl i.exact;
+      placed = omega (arith, i.placed, placed);
+      written = omega (arith, i.written, written);
+      all = omega (arith, i.all, all);
+      exact = exact_same u d (with_taken d e) v v u.pace refl refl i.exact;
       going = i.going;
       answered = i.answered;
     }
+
+-- the table counted a sample
+pub kept_counted : (tables : List Sent) (least most : ℕ) (u : Setup) (d : Driver) (v : Side) (t : Table) (s : Marked) (rest : List Marked) → IsRising u.samples → d.table ≡ Some t → needs_room t s.key ≡ false
+    → drop d.at u.samples ≡ s ∷ rest → s.mark ≤ v.heard / 2 → Loose tables least most u d v → Loose tables least most u (take_next d s.key (Some t)) v
+kept_counted tables least most u d v t s rest rising held room left mark i =
+    let k = s.key in
+    let is : IsTable v.buckets t = subst (λ (z : Option Table). IfSome z (IsTable v.buckets)) held i.table in
+    let some : 0 < length t.rows = omega (arith, is.size, i.buckets) in
+    let out : given_out (add t k).added ≡ None = out_none (given_out (add t k).added) room in
+    kept_taken tables least most least most u d (take_next d k (Some t)) v s rest rising left mark (ap (λ (z : Option Table). is_some z) held) refl (table_kept v.buckets k t i.buckets is) i.active
+    (λ j. omega (arith, ap (λ (z : Option Table). weight j (table_entries z)) held, add_weighs j k t some is.ways, ap (λ (z : Option Counted). out_weight j z) out))
+    (omega (arith, tally_placed d.stats (add t k).added, add_grows k t some, ap (λ (z : Option Table). length (table_entries z)) held))
+    (omega (arith, tally_written d.stats (add t k).added, ap (λ (z : Option Counted). out_count z) out))
+    (tally_all d.stats (Some (add t k).added)) i

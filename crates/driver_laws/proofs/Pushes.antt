@@ -1,9 +1,10 @@
 use Rattle.std.proofs.Common.{◌≡◌, ℕ, ◌+◌, ◌/◌, ◌<◌, ◌≤◌, List, [], ◌∷◌, ◌++◌, length, drop, refl, ◌∙◌, ap, subst, arith, true, Some, None, Option, eqb, ◌&&◌, length-append}
 use Rattle.std.specs.Prelude.{is_some, IfSome, IsSomeAnd, slice_get, ◌⊎◌}
-use Rattle.sample_key.specs.Bags.{weight}
+use Rattle.sample_key.specs.Bags.{weight, counted}
 use Rattle.sample_key.specs.Counted.{Counted, entry}
 use Rattle.sample_key.specs.Marks.{IsRising}
 use Rattle.sample_key.specs.Sent.{Sent}
+use Rattle.sample_key.specs.declared.keys.Key.{Key}
 use Rattle.sample_key.specs.declared.keys.Marked.{Marked}
 use Rattle.driver_model.specs.Lists.{AllOf, SomeOf}
 use Rattle.driver_model.specs.Table.{Table, IsTable, add, given_out, needs_room}
@@ -11,13 +12,12 @@ use Rattle.driver_model.specs.Sides.{Side}
 use Rattle.driver_model.specs.Driver.{Setup, Driver, take_next, entry_to_write, pair_handed, buffer_header, hand_buffer}
 use Rattle.driver_model.specs.Invariant.{IsConserved, IsWholeFlush, FullOrCut, CutBy, WasOut, table_entries, active_entries}
 use Rattle.driver_laws.proofs.Lists.{each_push, each_map, all_push, all_map, all_both, all_any}
-use Rattle.driver_laws.proofs.Weights.{weight-append, batched-push, upto_push, times_next}
-use Rattle.driver_laws.proofs.Adds.{add_weighs, add_grows}
+use Rattle.driver_laws.proofs.Weights.{weight-append, batched-push, upto_push}
+use Rattle.driver_laws.proofs.Adds.{out_weight, add_weighs, add_grows}
 use Rattle.driver_laws.proofs.Tables.{table_kept}
-use Rattle.driver_laws.proofs.Marks.{due_next}
 use Rattle.driver_laws.proofs.Loose.{Loose}
-use Rattle.driver_laws.proofs.Parts.{exact_same, bounded_from, all_each, entries-push, tally_all, tally_placed, tally_written, out_some, flush_hand0, flush_hand1, out_push}
-use Rattle.driver_laws.proofs.Changes.{losses_later}
+use Rattle.driver_laws.proofs.Parts.{exact_same, bounded_from, out_count, all_each, entries-push, tally_all, tally_placed, tally_written, out_some, flush_hand0, flush_hand1, out_push}
+use Rattle.driver_laws.proofs.Changes.{kept_taken}
 
 -- what a turn writes: an entry is pushed to the active buffer, which is handed when it is full
 
@@ -26,98 +26,29 @@ pub kept_pushed : (tables : List Sent) (least most : ℕ) (u : Setup) (d : Drive
     → d.pair.active ≡ Some es → length es < v.buffer → drop d.at u.samples ≡ s ∷ rest → s.mark ≤ v.heard / 2 → Loose tables least most u d v
     → Loose tables 1 (v.buffer + 1) u (record (take_next d s.key (Some t)) { pair = record d.pair { active = Some (es ++ entry_to_write s.key (Some t) ∷ []) } }) v
 kept_pushed tables least most u d v t es s rest rising held room active few left mark i =
-    let k = s.key in
+    let k = s.key in let x : Counted = entry_to_write k (Some t) in
     let is : IsTable v.buckets t = subst (λ (z : Option Table). IfSome z (IsTable v.buckets)) held i.table in
     let some : 0 < length t.rows = omega (arith, is.size, i.buckets) in
-    let conserved : IsConserved u (record (take_next d s.key (Some t)) { pair = record d.pair { active = Some (es ++ entry_to_write s.key (Some t) ∷ []) } }) v =
-    λ j. omega (arith, i.conserved j, ap (λ (z : Option Table). weight j (table_entries z)) held, add_weighs j k t some is.ways, (out_some (given_out (add t k).added) (entry k 1) j room).0, ap (λ (z : Option (List Counted)). weight j (active_entries z)) active, weight-append j es (entry_to_write k (Some t) ∷ []), times_next j d.at u.samples s rest left) in
-    record {
-      conserved = conserved;
-      flushes = i.flushes;
-      bounded = bounded_from u (record (take_next d s.key (Some t)) { pair = record d.pair { active = Some (es ++ entry_to_write s.key (Some t) ∷ []) } }) v conserved (λ n j l. i.bounded n j (omega arith));
-      order0 = i.order0;
-      order1 = i.order1;
-      order2 = i.order2;
-      sizes0 = i.sizes0;
-      sizes1 = i.sizes1;
-      fits = i.fits;
-      explained = i.explained;
-      holds0 = i.holds0 ∙ ap (λ (z : Option (List Counted)). is_some z && eqb d.pair.active_number 0) active;
-      holds1 = i.holds1 ∙ ap (λ (z : Option (List Counted)). is_some z && eqb d.pair.active_number 1) active;
-      holds2 = i.holds2 ∙ ap (λ (z : Option Table). is_some z) held;
-      table = table_kept v.buckets k t i.buckets is;
-      active = (omega (arith, length-append es (entry_to_write k (Some t) ∷ [])), omega (arith, length-append es (entry_to_write k (Some t) ∷ [])));
-      buckets = i.buckets;
-      buffer = i.buffer;
-      turn = i.turn;
-      number = i.number;
-      next = i.next;
-      hands0 = i.hands0;
-      hands1 = i.hands1;
-      hands2 = i.hands2;
-      at = due_next u.samples 0 d.at (v.heard / 2) s rest rising left mark;
-      upto0 = all_map (λ b. b.note.upto ≤ d.at) (λ b. b.note.upto ≤ d.at + 1) (λ b h. omega arith) v.first.handed i.upto0;
-      upto1 = all_map (λ b. b.note.upto ≤ d.at) (λ b. b.note.upto ≤ d.at + 1) (λ b h. omega arith) v.second.handed i.upto1;
-      upto2 = all_map (λ b. b.note.upto ≤ d.at) (λ b. b.note.upto ≤ d.at + 1) (λ b h. omega arith) v.third.handed i.upto2;
-      in_order = losses_later u d (d.at + 1) (omega arith) i.in_order;
-      rise = i.rise;
-      last = i.last;
-      heard = i.heard;
-      placed = omega (arith, i.placed, tally_placed d.stats (add t k).added, add_grows k t some, ap (λ (z : Option Table). length (table_entries z)) held);
-      written = omega (arith, i.written, tally_written d.stats (add t k).added, (out_some (given_out (add t k).added) (entry k 1) k room).1, ap (λ (z : Option (List Counted)). length (active_entries z)) active, length-append es (entry_to_write k (Some t) ∷ []));
-      all = omega (arith, i.all, tally_all d.stats (Some (add t k).added));
-      exact = exact_same u d (record (take_next d s.key (Some t)) { pair = record d.pair { active = Some (es ++ entry_to_write s.key (Some t) ∷ []) } }) v v u.pace refl refl i.exact;
-      going = i.going;
-      answered = i.answered;
-    }
+    let given : (j : Key) → (out_weight j (given_out (add t k).added) ≡ counted j x) × (out_count (given_out (add t k).added) ≡ 1) = λ j. out_some (given_out (add t k).added) (entry k 1) j room in
+    let longer : length (es ++ x ∷ []) ≡ length es + 1 = length-append es (x ∷ []) in
+    kept_taken tables least most 1 (v.buffer + 1) u d (record (take_next d k (Some t)) { pair = record d.pair { active = Some (es ++ x ∷ []) } }) v s rest rising left mark
+    (ap (λ (z : Option Table). is_some z) held) (ap (λ (z : Option (List Counted)). is_some z) active) (table_kept v.buckets k t i.buckets is) (omega arith, omega arith)
+    (λ j. omega (arith, ap (λ (z : Option Table). weight j (table_entries z)) held, add_weighs j k t some is.ways, (given j).0, ap (λ (z : Option (List Counted)). weight j (active_entries z)) active, weight-append j es (x ∷ [])))
+    (omega (arith, tally_placed d.stats (add t k).added, add_grows k t some, ap (λ (z : Option Table). length (table_entries z)) held))
+    (omega (arith, tally_written d.stats (add t k).added, (given k).1, ap (λ (z : Option (List Counted)). length (active_entries z)) active))
+    (tally_all d.stats (Some (add t k).added)) i
 
 -- the table is out, and the sample itself is pushed
 pub kept_direct : (tables : List Sent) (least most : ℕ) (u : Setup) (d : Driver) (v : Side) (es : List Counted) (s : Marked) (rest : List Marked) → IsRising u.samples → d.table ≡ None
     → d.pair.active ≡ Some es → length es < v.buffer → drop d.at u.samples ≡ s ∷ rest → s.mark ≤ v.heard / 2 → Loose tables least most u d v
     → Loose tables 1 (v.buffer + 1) u (record (take_next d s.key None) { pair = record d.pair { active = Some (es ++ entry_to_write s.key None ∷ []) } }) v
 kept_direct tables least most u d v es s rest rising held active few left mark i =
-    let k = s.key in
-    let conserved : IsConserved u (record (take_next d s.key None) { pair = record d.pair { active = Some (es ++ entry_to_write s.key None ∷ []) } }) v =
-    λ j. omega (arith, i.conserved j, ap (λ (z : Option (List Counted)). weight j (active_entries z)) active, weight-append j es (entry_to_write k None ∷ []), times_next j d.at u.samples s rest left) in
-    record {
-      conserved = conserved;
-      flushes = i.flushes;
-      bounded = bounded_from u (record (take_next d s.key None) { pair = record d.pair { active = Some (es ++ entry_to_write s.key None ∷ []) } }) v conserved (λ n j l. i.bounded n j (omega arith));
-      order0 = i.order0;
-      order1 = i.order1;
-      order2 = i.order2;
-      sizes0 = i.sizes0;
-      sizes1 = i.sizes1;
-      fits = i.fits;
-      explained = i.explained;
-      holds0 = i.holds0 ∙ ap (λ (z : Option (List Counted)). is_some z && eqb d.pair.active_number 0) active;
-      holds1 = i.holds1 ∙ ap (λ (z : Option (List Counted)). is_some z && eqb d.pair.active_number 1) active;
-      holds2 = i.holds2;
-      table = i.table;
-      active = (omega (arith, length-append es (entry_to_write k None ∷ [])), omega (arith, length-append es (entry_to_write k None ∷ [])));
-      buckets = i.buckets;
-      buffer = i.buffer;
-      turn = i.turn;
-      number = i.number;
-      next = i.next;
-      hands0 = i.hands0;
-      hands1 = i.hands1;
-      hands2 = i.hands2;
-      at = due_next u.samples 0 d.at (v.heard / 2) s rest rising left mark;
-      upto0 = all_map (λ b. b.note.upto ≤ d.at) (λ b. b.note.upto ≤ d.at + 1) (λ b h. omega arith) v.first.handed i.upto0;
-      upto1 = all_map (λ b. b.note.upto ≤ d.at) (λ b. b.note.upto ≤ d.at + 1) (λ b h. omega arith) v.second.handed i.upto1;
-      upto2 = all_map (λ b. b.note.upto ≤ d.at) (λ b. b.note.upto ≤ d.at + 1) (λ b h. omega arith) v.third.handed i.upto2;
-      in_order = losses_later u d (d.at + 1) (omega arith) i.in_order;
-      rise = i.rise;
-      last = i.last;
-      heard = i.heard;
-      placed = i.placed;
-      written = omega (arith, i.written, ap (λ (z : Option (List Counted)). length (active_entries z)) active, length-append es (entry_to_write k None ∷ []));
-      all = omega (arith, i.all, tally_all d.stats None);
-      exact = exact_same u d (record (take_next d s.key None) { pair = record d.pair { active = Some (es ++ entry_to_write s.key None ∷ []) } }) v v u.pace refl refl i.exact;
-      going = i.going;
-      answered = i.answered;
-    }
+    let x : Counted = entry_to_write s.key None in
+    let longer : length (es ++ x ∷ []) ≡ length es + 1 = length-append es (x ∷ []) in
+    kept_taken tables least most 1 (v.buffer + 1) u d (record (take_next d s.key None) { pair = record d.pair { active = Some (es ++ x ∷ []) } }) v s rest rising left mark
+    refl (ap (λ (z : Option (List Counted)). is_some z) active) i.table (omega arith, omega arith)
+    (λ j. omega (arith, ap (λ (z : Option (List Counted)). weight j (active_entries z)) active, weight-append j es (x ∷ [])))
+    refl (omega (arith, ap (λ (z : Option (List Counted)). length (active_entries z)) active)) (tally_all d.stats None) i
 
 -- buffer 0, which is active, is handed
 pub kept_hand0 : (tables new : List Sent) (least most : ℕ) (u : Setup) (d : Driver) (v : Side) (es : List Counted)
