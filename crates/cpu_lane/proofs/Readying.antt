@@ -10,29 +10,34 @@ use Rattle.driver_model.specs.Sides.{Side, HasRoomFor, is_even, side_look_buffer
 use Rattle.driver_model.specs.Driver.{Setup, Buffers, Driver, World, Two, activate, other, word_at, look_other, look_both, find_buffer, take_next}
 use Rattle.driver_model.specs.Invariant.{table_entries, active_entries, is_active}
 use Rattle.driver_laws.proofs.Lists.{by_number, next_below}
-use Rattle.driver_laws.proofs.Marks.{due_next}
+use Rattle.driver_laws.proofs.Changes.{with_held, with_words}
+use Rattle.driver_laws.proofs.Marks.{due_later, due_next}
 use Rattle.overflow_pair.specs.Contents.{Contents, HasSpace, pushed, entries_if}
 use Rattle.lane_side.specs.Fixed.{Fixed}
 use Rattle.cpu_lane.specs.Steps.{Is, looked}
 use Rattle.cpu_lane.specs.Ready.{Ready, CanHand, CanCount, IsDue}
 use Rattle.cpu_lane.proofs.Handing.{less_room, can_hand}
 
--- buffer 0 came back
-ready_back0 : (u : Setup) (f : Fixed) (d : Driver) (v : Side) (w : ℕ) → Ready u f d v → d.pair.active ≡ None → is_even w ≡ true
-    → Ready u f (activate d 0) (side_look_buffer v 0 w)
-ready_back0 u f d v w r none even =
-    let no : (n : ℕ) → is_active d.pair n ≡ false = λ n. ap (λ (a : Option (List Counted)). is_some a && eqb d.pair.active_number n) none in
+-- A turn stays ready where only the words, the bell and who holds what change, if the entries stay and the holds are those of
+-- the driver.
+pub ready_holds : (u : Setup) (f : Fixed) (d e : Driver) (v w : Side) → table_entries e.table ≡ table_entries d.table → active_entries e.pair.active ≡ active_entries d.pair.active
+    → w.first.holds ≡ is_active e.pair 0 → w.second.holds ≡ is_active e.pair 1 → w.third.holds ≡ is_some e.table
+    → IfSome e.table (λ t. length t.rows ≡ v.buckets) → IfSome e.pair.active (λ es. length es < v.buffer) → e.pair.active_number ≤ 1 → v.heard ≤ w.heard
+    → Ready u f d v → Ready u f (with_held d e) (with_words v w)
+ready_holds u f d e v w same_table same_active holds0 holds1 holds2 table active number heard r =
+    let in_table : length (table_entries e.table) ≡ length (table_entries d.table) = ap (λ (es : List Counted). length es) same_table in
+    let in_active : length (active_entries e.pair.active) ≡ length (active_entries d.pair.active) = ap (λ (es : List Counted). length es) same_active in
     record {
       setup_is = r.setup_is;
       side_is = record { cpu = r.side_is.cpu; samples = r.side_is.samples; size = r.side_is.size };
-      room = less_room 2 2 (length (table_entries d.table) + length (active_entries d.pair.active) + 1) (length (table_entries d.table) + 0 + 1) v.room (omega arith) (omega arith) r.room;
-      holds0 = even;
-      holds1 = r.holds1 ∙ no 1;
-      holds2 = r.holds2;
-      table = r.table;
-      active = r.buffer;
+      room = less_room 2 2 (length (table_entries d.table) + length (active_entries d.pair.active) + 1) (length (table_entries e.table) + length (active_entries e.pair.active) + 1) v.room (omega arith) (omega arith) r.room;
+      holds0 = holds0;
+      holds1 = holds1;
+      holds2 = holds2;
+      table = table;
+      active = active;
       buffer = r.buffer;
-      number = omega arith;
+      number = number;
       next = r.next;
       hands0 = r.hands0;
       hands1 = r.hands1;
@@ -40,98 +45,37 @@ ready_back0 u f d v w r none even =
       few0 = r.few0;
       few1 = r.few1;
       few2 = r.few2;
-      answered = r.answered;
-      at = r.at;
+      answered = omega (arith, r.answered);
+      at = omega (arith, r.at, due_later u.samples (v.heard / 2) (w.heard / 2) (omega arith));
       held = omega (arith, r.held);
       all = r.all;
     }
+
+-- buffer 0 came back
+ready_back0 : (u : Setup) (f : Fixed) (d : Driver) (v : Side) (w : ℕ) → Ready u f d v → d.pair.active ≡ None → is_even w ≡ true
+    → Ready u f (activate d 0) (side_look_buffer v 0 w)
+ready_back0 u f d v w r none even =
+    ready_holds u f d (activate d 0) v (side_look_buffer v 0 w) refl (sym (ap (λ (a : Option (List Counted)). active_entries a) none))
+    even (r.holds1 ∙ ap (λ (a : Option (List Counted)). is_some a && eqb d.pair.active_number 1) none) r.holds2 r.table r.buffer (omega arith) (omega arith) r
 
 -- buffer 0 is out
 ready_out0 : (u : Setup) (f : Fixed) (d : Driver) (v : Side) (w : ℕ) → Ready u f d v → d.pair.active ≡ None → is_even w ≡ false
     → Ready u f d (side_look_buffer v 0 w)
 ready_out0 u f d v w r none odd =
-    let no : (n : ℕ) → is_active d.pair n ≡ false = λ n. ap (λ (a : Option (List Counted)). is_some a && eqb d.pair.active_number n) none in
-    record {
-      setup_is = r.setup_is;
-      side_is = record { cpu = r.side_is.cpu; samples = r.side_is.samples; size = r.side_is.size };
-      room = r.room;
-      holds0 = odd ∙ sym (no 0);
-      holds1 = r.holds1;
-      holds2 = r.holds2;
-      table = r.table;
-      active = r.active;
-      buffer = r.buffer;
-      number = r.number;
-      next = r.next;
-      hands0 = r.hands0;
-      hands1 = r.hands1;
-      hands2 = r.hands2;
-      few0 = r.few0;
-      few1 = r.few1;
-      few2 = r.few2;
-      answered = r.answered;
-      at = r.at;
-      held = r.held;
-      all = r.all;
-    }
+    ready_holds u f d d v (side_look_buffer v 0 w) refl refl (odd ∙ sym (ap (λ (a : Option (List Counted)). is_some a && eqb d.pair.active_number 0) none)) r.holds1 r.holds2 r.table r.active r.number (omega arith) r
 
 -- buffer 1 came back
 ready_back1 : (u : Setup) (f : Fixed) (d : Driver) (v : Side) (w : ℕ) → Ready u f d v → d.pair.active ≡ None → is_even w ≡ true
     → Ready u f (activate d 1) (side_look_buffer v 1 w)
 ready_back1 u f d v w r none even =
-    let no : (n : ℕ) → is_active d.pair n ≡ false = λ n. ap (λ (a : Option (List Counted)). is_some a && eqb d.pair.active_number n) none in
-    record {
-      setup_is = r.setup_is;
-      side_is = record { cpu = r.side_is.cpu; samples = r.side_is.samples; size = r.side_is.size };
-      room = less_room 2 2 (length (table_entries d.table) + length (active_entries d.pair.active) + 1) (length (table_entries d.table) + 0 + 1) v.room (omega arith) (omega arith) r.room;
-      holds0 = r.holds0 ∙ no 0;
-      holds1 = even;
-      holds2 = r.holds2;
-      table = r.table;
-      active = r.buffer;
-      buffer = r.buffer;
-      number = omega arith;
-      next = r.next;
-      hands0 = r.hands0;
-      hands1 = r.hands1;
-      hands2 = r.hands2;
-      few0 = r.few0;
-      few1 = r.few1;
-      few2 = r.few2;
-      answered = r.answered;
-      at = r.at;
-      held = omega (arith, r.held);
-      all = r.all;
-    }
+    ready_holds u f d (activate d 1) v (side_look_buffer v 1 w) refl (sym (ap (λ (a : Option (List Counted)). active_entries a) none))
+    (r.holds0 ∙ ap (λ (a : Option (List Counted)). is_some a && eqb d.pair.active_number 0) none) even r.holds2 r.table r.buffer (omega arith) (omega arith) r
 
 -- buffer 1 is out
 ready_out1 : (u : Setup) (f : Fixed) (d : Driver) (v : Side) (w : ℕ) → Ready u f d v → d.pair.active ≡ None → is_even w ≡ false
     → Ready u f d (side_look_buffer v 1 w)
 ready_out1 u f d v w r none odd =
-    let no : (n : ℕ) → is_active d.pair n ≡ false = λ n. ap (λ (a : Option (List Counted)). is_some a && eqb d.pair.active_number n) none in
-    record {
-      setup_is = r.setup_is;
-      side_is = record { cpu = r.side_is.cpu; samples = r.side_is.samples; size = r.side_is.size };
-      room = r.room;
-      holds0 = r.holds0;
-      holds1 = odd ∙ sym (no 1);
-      holds2 = r.holds2;
-      table = r.table;
-      active = r.active;
-      buffer = r.buffer;
-      number = r.number;
-      next = r.next;
-      hands0 = r.hands0;
-      hands1 = r.hands1;
-      hands2 = r.hands2;
-      few0 = r.few0;
-      few1 = r.few1;
-      few2 = r.few2;
-      answered = r.answered;
-      at = r.at;
-      held = r.held;
-      all = r.all;
-    }
+    ready_holds u f d d v (side_look_buffer v 1 w) refl refl r.holds0 (odd ∙ sym (ap (λ (a : Option (List Counted)). is_some a && eqb d.pair.active_number 1) none)) r.holds2 r.table r.active r.number (omega arith) r
 
 -- both were looked at, buffer 0 first
 ready_both0 : (u : Setup) (f : Fixed) (h : Two) (d : Driver) (v : Side) → Ready u f d v → d.pair.active ≡ None → Ready u f (look_both h d v 0).driver (look_both h d v 0).side

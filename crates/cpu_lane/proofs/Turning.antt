@@ -6,10 +6,10 @@ use Rattle.std.proofs.lemmas.List.{length-replicate}
 use Rattle.sample_key.specs.Counted.{Counted}
 use Rattle.sample_key.specs.Sent.{Sent}
 use Rattle.driver_model.specs.Lists.{AllOf}
-use Rattle.driver_model.specs.Table.{Table, entries_in, empty_table, IsTable}
+use Rattle.driver_model.specs.Table.{Table, empty_table, IsTable}
 use Rattle.driver_model.specs.Sides.{Slot, Side, is_even, side_hear, side_look_table}
 use Rattle.driver_model.specs.Driver.{Setup, Driver, World, Turned, Two, Words, ends_with, regain, after_regain, turn_of}
-use Rattle.driver_model.specs.Invariant.{IsSetup, FullOrCut, entries_of, last_answer, table_entries, active_entries, DriverInvariant}
+use Rattle.driver_model.specs.Invariant.{IsSetup, FullOrCut, entries_of, last_answer, table_entries, DriverInvariant}
 use Rattle.driver_model.specs.declared.answers.Turn.{Turn}
 use Rattle.driver_model.specs.declared.answers.Turn.TheVariants.{Done}
 use Rattle.driver_model.specs.Handover.{FarSide, Given}
@@ -22,7 +22,7 @@ use Rattle.lane_side.specs.Fixed.{Fixed}
 use Rattle.cpu_lane.specs.Told.{OverTwo, OverThird, two_at}
 use Rattle.cpu_lane.specs.Steps.{Is, Gives}
 use Rattle.cpu_lane.specs.Ready.{IsSideOf, HasRoom, Ready}
-use Rattle.cpu_lane.proofs.Handing.{less_room}
+use Rattle.cpu_lane.proofs.Readying.{ready_holds}
 
 -- each batch of a buffer has an entry
 few_batches : (cell size : ℕ) (tables bs : List Sent) → AllOf (FullOrCut cell size tables) bs → length bs ≤ entries_of bs
@@ -73,52 +73,9 @@ pub ready_regain : (u : Setup) (f : Fixed) (d : Driver) (v : Side) (w : ℕ) (o 
 ready_regain u f d v w (Some t) r held = r
 ready_regain u f d v w None r held =
     cond_both (is_even w) (record d { table = Some (empty_table v.buckets v.turn) }) d (λ (e : Driver). Ready u f e (side_look_table v w))
-    (λ even. record {
-      setup_is = r.setup_is;
-      side_is = record { cpu = r.side_is.cpu; samples = r.side_is.samples; size = r.side_is.size };
-      room = less_room 2 2 (length (table_entries d.table) + length (active_entries d.pair.active) + 1) (length (entries_in (empty_table v.buckets v.turn)) + length (active_entries d.pair.active) + 1) v.room (omega arith) (omega (arith, ap (λ (z : List Counted). length z) (empty_entries v.buckets v.turn))) r.room;
-      holds0 = r.holds0;
-      holds1 = r.holds1;
-      holds2 = even;
-      table = length-replicate {A = List Counted} v.buckets [];
-      active = r.active;
-      buffer = r.buffer;
-      number = r.number;
-      next = r.next;
-      hands0 = r.hands0;
-      hands1 = r.hands1;
-      hands2 = r.hands2;
-      few0 = r.few0;
-      few1 = r.few1;
-      few2 = r.few2;
-      answered = r.answered;
-      at = r.at;
-      held = omega (arith, r.held, ap (λ (z : List Counted). length z) (empty_entries v.buckets v.turn));
-      all = r.all;
-    })
-    (λ odd. record {
-      setup_is = r.setup_is;
-      side_is = record { cpu = r.side_is.cpu; samples = r.side_is.samples; size = r.side_is.size };
-      room = r.room;
-      holds0 = r.holds0;
-      holds1 = r.holds1;
-      holds2 = odd ∙ sym (ap (λ (z : Option Table). is_some z) held);
-      table = r.table;
-      active = r.active;
-      buffer = r.buffer;
-      number = r.number;
-      next = r.next;
-      hands0 = r.hands0;
-      hands1 = r.hands1;
-      hands2 = r.hands2;
-      few0 = r.few0;
-      few1 = r.few1;
-      few2 = r.few2;
-      answered = r.answered;
-      at = r.at;
-      held = r.held;
-      all = r.all;
-    })
+    (λ even. ready_holds u f d (record d { table = Some (empty_table v.buckets v.turn) }) v (side_look_table v w)
+    (empty_entries v.buckets v.turn ∙ sym (ap (λ (z : Option Table). table_entries z) held)) refl r.holds0 r.holds1 even (length-replicate {A = List Counted} v.buckets []) r.active r.number (omega arith) r)
+    (λ odd. ready_holds u f d d v (side_look_table v w) refl refl r.holds0 r.holds1 (odd ∙ sym (ap (λ (z : Option Table). is_some z) held)) r.table r.active r.number (omega arith) r)
 
 -- what the look for the table leaves
 record Leaves (v w : Side) : Type 0 where

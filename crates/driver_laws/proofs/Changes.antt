@@ -23,11 +23,11 @@ use Rattle.driver_laws.proofs.Parts.{exact_same, bounded_from, out_count, tally_
 -- the small changes of a turn, each of which keeps the invariant
 
 -- the driver with the table and the active buffer of another
-abbrev with_held : Driver → Driver → Driver
+abbrev pub with_held : Driver → Driver → Driver
 with_held d e = record d { table = e.table; pair = record d.pair { active = e.pair.active; active_number = e.pair.active_number } }
 
 -- the side with the calls, the bell, the words and the holds of another
-abbrev with_words : Side → Side → Side
+abbrev pub with_words : Side → Side → Side
 with_words v w = record v {
   first = record w.first { handed = v.first.handed };
   second = record w.second { handed = v.second.handed };
