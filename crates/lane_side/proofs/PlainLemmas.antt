@@ -15,7 +15,7 @@ use Rattle.lane_side.specs.Cells.{is_drivers, is_daemons, after_look, look_of, a
 use Rattle.lane_side.specs.Tallied.{tallied}
 use Rattle.lane_side.specs.Plain.{PlainParts, handed_in, slot_in, far_slot_in, seen_of, far_of, fixed_of, BufferHome, BufferPosted, TableHome, TablePosted, IsPlain}
 use Rattle.lane_side.specs.declared.cells.Holder.{Holder}
-use Rattle.lane_side.specs.declared.cells.Holder.TheVariants.{AtHome, WithDriver, Posted, WithDaemon}
+use Rattle.lane_side.specs.declared.cells.Holder.TheVariants.{AtHome, Posted, WithDaemon}
 use Rattle.lane_side.specs.declared.call_log.Call.TheVariants.{Hear, Try, Pass, Ring}
 use Rattle.lane_side.proofs.Bells.{last-push, was_rung, still_rung, rises_push, note_later}
 use Rattle.lane_side.proofs.CellLemmas.{own_push, other_push, look_cell, poll_cell, hand_cell, hand_far, give_cell, along_cell, later_cell}
@@ -116,16 +116,6 @@ looked_plain2 p h g s free i =
 pub polled_plain0 : (p : PlainParts) (h g : ℕ) (s : Holder Contents) → is_daemons s ≡ false → IsPlain (record p { first = cell_of h g s })
     → IsPlain (record p { first = cell_of h g (after_poll s); tallies = tallied p.tallies (Try 0 (h + g)) })
     × PollsBuffer 0 (fixed_of (record p { first = cell_of h g s })) (seen_of (record p { first = cell_of h g s })) (far_of (record p { first = cell_of h g s })) (poll_of (h + g) s) (seen_of (record p { first = cell_of h g (after_poll s); tallies = tallied p.tallies (Try 0 (h + g)) })) (far_of (record p { first = cell_of h g (after_poll s); tallies = tallied p.tallies (Try 0 (h + g)) }))
-polled_plain0 p h g (AtHome x) free i =
-    let f = poll_cell (handed_in 0 p.history.sent) buffer_sent (BufferHome p.buffer) (Posted0 0 p) (Unit {0}) h g (AtHome x) free i.first in (
-      record { first = i.first; second = i.second; third = i.third; bell = i.bell; rising = i.rising; bound = i.bound; heard = i.heard; known = i.known },
-      record { side = refl; told = f.told; cause = record { word = refl; even = f.cause.1; far = refl } },
-    )
-polled_plain0 p h g WithDriver free i =
-    let f = poll_cell (handed_in 0 p.history.sent) buffer_sent (BufferHome p.buffer) (Posted0 0 p) (Unit {0}) h g WithDriver free i.first in (
-      record { first = i.first; second = i.second; third = i.third; bell = i.bell; rising = i.rising; bound = i.bound; heard = i.heard; known = i.known },
-      record { side = refl; told = f.told; cause = record { word = refl; even = f.cause.1; far = refl } },
-    )
 polled_plain0 p h g (Posted q) free i =
     let f = poll_cell (handed_in 0 p.history.sent) buffer_sent (BufferHome p.buffer) (Posted0 0 p) (Unit {0}) h g (Posted q) free i.first in let c = f.cause in (
       record { first = record { hands = i.first.hands; bound = i.first.bound; state = (i.first.state.0, tt) }; second = i.second; third = i.third; bell = i.bell; rising = i.rising; bound = i.bound; heard = i.heard; known = i.known },
@@ -143,21 +133,16 @@ polled_plain0 p h g (Posted q) free i =
       },
     )
 polled_plain0 p h g WithDaemon free i = cc
+polled_plain0 p h g s free i =
+    let f = poll_cell (handed_in 0 p.history.sent) buffer_sent (BufferHome p.buffer) (Posted0 0 p) (Unit {0}) h g s free i.first in (
+      record { first = i.first; second = i.second; third = i.third; bell = i.bell; rising = i.rising; bound = i.bound; heard = i.heard; known = i.known },
+      record { side = refl; told = f.told; cause = record { word = refl; even = f.cause.1; far = refl } },
+    )
 
 -- cell 1 was polled
 pub polled_plain1 : (p : PlainParts) (h g : ℕ) (s : Holder Contents) → is_daemons s ≡ false → IsPlain (record p { second = cell_of h g s })
     → IsPlain (record p { second = cell_of h g (after_poll s); tallies = tallied p.tallies (Try 1 (h + g)) })
     × PollsBuffer 1 (fixed_of (record p { second = cell_of h g s })) (seen_of (record p { second = cell_of h g s })) (far_of (record p { second = cell_of h g s })) (poll_of (h + g) s) (seen_of (record p { second = cell_of h g (after_poll s); tallies = tallied p.tallies (Try 1 (h + g)) })) (far_of (record p { second = cell_of h g (after_poll s); tallies = tallied p.tallies (Try 1 (h + g)) }))
-polled_plain1 p h g (AtHome x) free i =
-    let f = poll_cell (handed_in 1 p.history.sent) buffer_sent (BufferHome p.buffer) (Posted0 1 p) (Unit {0}) h g (AtHome x) free i.second in (
-      record { first = i.first; second = i.second; third = i.third; bell = i.bell; rising = i.rising; bound = i.bound; heard = i.heard; known = i.known },
-      record { side = refl; told = f.told; cause = record { word = refl; even = f.cause.1; far = refl } },
-    )
-polled_plain1 p h g WithDriver free i =
-    let f = poll_cell (handed_in 1 p.history.sent) buffer_sent (BufferHome p.buffer) (Posted0 1 p) (Unit {0}) h g WithDriver free i.second in (
-      record { first = i.first; second = i.second; third = i.third; bell = i.bell; rising = i.rising; bound = i.bound; heard = i.heard; known = i.known },
-      record { side = refl; told = f.told; cause = record { word = refl; even = f.cause.1; far = refl } },
-    )
 polled_plain1 p h g (Posted q) free i =
     let f = poll_cell (handed_in 1 p.history.sent) buffer_sent (BufferHome p.buffer) (Posted0 1 p) (Unit {0}) h g (Posted q) free i.second in let c = f.cause in (
       record { first = i.first; second = record { hands = i.second.hands; bound = i.second.bound; state = (i.second.state.0, tt) }; third = i.third; bell = i.bell; rising = i.rising; bound = i.bound; heard = i.heard; known = i.known },
@@ -175,23 +160,23 @@ polled_plain1 p h g (Posted q) free i =
       },
     )
 polled_plain1 p h g WithDaemon free i = cc
+polled_plain1 p h g s free i =
+    let f = poll_cell (handed_in 1 p.history.sent) buffer_sent (BufferHome p.buffer) (Posted0 1 p) (Unit {0}) h g s free i.second in (
+      record { first = i.first; second = i.second; third = i.third; bell = i.bell; rising = i.rising; bound = i.bound; heard = i.heard; known = i.known },
+      record { side = refl; told = f.told; cause = record { word = refl; even = f.cause.1; far = refl } },
+    )
 
 -- cell 2 was polled, and nothing waited
 pub unpolled_plain2 : (p : PlainParts) (h g : ℕ) (s : Holder Table) → (s ≡ after_poll s) → is_daemons s ≡ false → IsPlain (record p { third = cell_of h g s })
     → IsPlain (record p { third = cell_of h g s; tallies = tallied p.tallies (Try 2 (h + g)) })
     × PollsTable (fixed_of (record p { third = cell_of h g s })) (seen_of (record p { third = cell_of h g s })) (far_of (record p { third = cell_of h g s })) (poll_of (h + g) s) (seen_of (record p { third = cell_of h g s; tallies = tallied p.tallies (Try 2 (h + g)) })) (far_of (record p { third = cell_of h g s; tallies = tallied p.tallies (Try 2 (h + g)) }))
-unpolled_plain2 p h g (AtHome x) same free i =
-    let f = poll_cell (handed_in 2 p.history.sent) table_sent (TableHome p.buckets p.tallies.turn) (Posted2 p) (Gone2 p) h g (AtHome x) free i.third in (
-      record { first = i.first; second = i.second; third = i.third; bell = i.bell; rising = i.rising; bound = i.bound; heard = i.heard; known = i.known },
-      record { side = refl; told = f.told; cause = record { word = refl; even = f.cause.1; far = refl } },
-    )
-unpolled_plain2 p h g WithDriver same free i =
-    let f = poll_cell (handed_in 2 p.history.sent) table_sent (TableHome p.buckets p.tallies.turn) (Posted2 p) (Gone2 p) h g WithDriver free i.third in (
-      record { first = i.first; second = i.second; third = i.third; bell = i.bell; rising = i.rising; bound = i.bound; heard = i.heard; known = i.known },
-      record { side = refl; told = f.told; cause = record { word = refl; even = f.cause.1; far = refl } },
-    )
 unpolled_plain2 p h g (Posted q) same free i = cc
 unpolled_plain2 p h g WithDaemon same free i = cc
+unpolled_plain2 p h g s same free i =
+    let f = poll_cell (handed_in 2 p.history.sent) table_sent (TableHome p.buckets p.tallies.turn) (Posted2 p) (Gone2 p) h g s free i.third in (
+      record { first = i.first; second = i.second; third = i.third; bell = i.bell; rising = i.rising; bound = i.bound; heard = i.heard; known = i.known },
+      record { side = refl; told = f.told; cause = record { word = refl; even = f.cause.1; far = refl } },
+    )
 
 -- the table was taken
 pub taken_plain2 : (p : PlainParts) (h g : ℕ) (q : Parcel Table) → IsPlain (record p { third = cell_of h g (Posted q) })
