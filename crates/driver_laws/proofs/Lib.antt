@@ -1,4 +1,5 @@
 pub mod Lists
+pub mod Looks
 pub mod Weights
 pub mod Adds
 pub mod Tables

@@ -9,10 +9,11 @@ use Rattle.sample_key.specs.declared.losses.Pace.{Pace}
 use Rattle.sample_key.specs.declared.losses.Pace.TheVariants.{Free, Exact}
 use Rattle.driver_model.specs.Table.{Table, empty_table}
 use Rattle.driver_model.specs.Sides.{Side, is_even, slot_handed, room_after, side_hear, side_look_table, side_look_buffer}
-use Rattle.driver_model.specs.Driver.{Two, Words, ends_with, regain, hand_active, answer_with, look_other, look_both, find_buffer, push, write, write_sample, take_sample, next_sample, after_regain, turn_of, Setup, Driver, World, Turned, take_next, entry_to_write, needs_write, activate, pair_handed, buffer_header, hand_buffer, hand_table, may_answer, answers_now}
+use Rattle.driver_model.specs.Driver.{Two, Words, ends_with, regain, hand_active, answer_with, find_buffer, push, write, write_sample, take_sample, next_sample, after_regain, turn_of, Setup, Driver, World, Turned, take_next, entry_to_write, needs_write, activate, pair_handed, buffer_header, hand_buffer, hand_table, may_answer, answers_now}
 use Rattle.driver_model.specs.declared.answers.Turn.TheVariants.{Took, Held, Answered, Done}
 use Rattle.driver_laws.specs.Causes.{table_after, with_table, HasBuffer, CauseAt, CauseOf}
-use Rattle.driver_laws.proofs.Lists.{by_number, odd_of}
+use Rattle.driver_laws.proofs.Lists.{odd_of}
+use Rattle.driver_laws.proofs.Looks.{look_ends}
 use Rattle.driver_laws.proofs.Lefts.{after_left, hears_turn}
 
 -- the causes, along the definition of the turn
@@ -54,36 +55,28 @@ module _ (u : Setup) (d : Driver) (v : Side) (n : ℕ) (s : Marked) (rest : List
   none_there w Free pace a b e f active = (none, (s, (rest, left), ((mark, needs, pace, (active, a, b, e, f)), refl)))
   none_there w Exact pace a b e f active = (none, (s, (rest, left), inr (mark, needs, pace, (active, a, b, e, f))))
 
-  look0 : (h : Two) → d.pair.active ≡ None → Caused (look_both h d v 0)
-  look0 h active =
-      let v1 = side_look_buffer v 0 h.first in let v2 = side_look_buffer v1 1 h.second in
-      cond_both (is_even h.first) (record { driver = activate d 0; side = v1 }) (look_other h d v1 1) Caused
-      (λ even. let w = push_words u (record { driver = activate d 0; side = v1 }) s.key [] in
-      took_it (push u (record { driver = activate d 0; side = v1 }) s.key []).side (inr (inl (w.0, ap (λ (m : ℕ). m % 2) w.1 ∙ even_of h.first even))))
-      (λ odd. cond_both (is_even h.second) (activate d 1) d (λ (z : Driver). Caused (record { driver = z; side = v2 }))
-      (λ even. let w = push_words u (record { driver = activate d 1; side = v2 }) s.key [] in
-      took_it (push u (record { driver = activate d 1; side = v2 }) s.key []).side (inr (inr (w.2, ap (λ (m : ℕ). m % 2) w.3 ∙ even_of h.second even))))
-      (λ out. subst (λ (a : Option (List Counted)). CauseAt u d v (write u (record { driver = d; side = v2 }) s.key u.pace a).side n (write u (record { driver = d; side = v2 }) s.key u.pace a).answer) (sym active)
-      (none_there v2 u.pace refl refl refl (odd_of h.first odd) (odd_of h.second out) active)))
+  -- one came back
+  back0 : (x : Side) → is_even x.first.read ≡ true → x.first.tries ≡ v.first.tries + 1 → Caused (record { driver = activate d 0; side = x })
+  back0 x even tries =
+      let w = push_words u (record { driver = activate d 0; side = x }) s.key [] in
+      took_it (push u (record { driver = activate d 0; side = x }) s.key []).side (inr (inl (w.0 ∙ tries, ap (λ (m : ℕ). m % 2) w.1 ∙ even_of x.first.read even)))
 
-  look1 : (h : Two) → d.pair.active ≡ None → Caused (look_both h d v 1)
-  look1 h active =
-      let v1 = side_look_buffer v 1 h.second in let v2 = side_look_buffer v1 0 h.first in
-      cond_both (is_even h.second) (record { driver = activate d 1; side = v1 }) (look_other h d v1 0) Caused
-      (λ even. let w = push_words u (record { driver = activate d 1; side = v1 }) s.key [] in
-      took_it (push u (record { driver = activate d 1; side = v1 }) s.key []).side (inr (inr (w.2, ap (λ (m : ℕ). m % 2) w.3 ∙ even_of h.second even))))
-      (λ odd. cond_both (is_even h.first) (activate d 0) d (λ (z : Driver). Caused (record { driver = z; side = v2 }))
-      (λ even. let w = push_words u (record { driver = activate d 0; side = v2 }) s.key [] in
-      took_it (push u (record { driver = activate d 0; side = v2 }) s.key []).side (inr (inl (w.0, ap (λ (m : ℕ). m % 2) w.1 ∙ even_of h.first even))))
-      (λ out. subst (λ (a : Option (List Counted)). CauseAt u d v (write u (record { driver = d; side = v2 }) s.key u.pace a).side n (write u (record { driver = d; side = v2 }) s.key u.pace a).answer) (sym active)
-      (none_there v2 u.pace refl refl refl (odd_of h.first out) (odd_of h.second odd) active)))
+  back1 : (x : Side) → is_even x.second.read ≡ true → x.second.tries ≡ v.second.tries + 1 → Caused (record { driver = activate d 1; side = x })
+  back1 x even tries =
+      let w = push_words u (record { driver = activate d 1; side = x }) s.key [] in
+      took_it (push u (record { driver = activate d 1; side = x }) s.key []).side (inr (inr (w.2 ∙ tries, ap (λ (m : ℕ). m % 2) w.3 ∙ even_of x.second.read even)))
 
   -- the sample was written, lost or held
   write_cause : (h : Two) (a : Option (List Counted)) → d.pair.active ≡ a → d.pair.next ≤ 1 → Caused (find_buffer h d v a)
   write_cause h (Some es) active next =
       subst (λ (a : Option (List Counted)). CauseAt u d v (write u (record { driver = d; side = v }) s.key u.pace a).side n (write u (record { driver = d; side = v }) s.key u.pace a).answer) (sym active)
       (took_it (push u (record { driver = d; side = v }) s.key es).side (inl (ap (λ (z : Option (List Counted)). is_some z) active)))
-  write_cause h None active next = by_number (λ (b : ℕ). Caused (look_both h d v b)) d.pair.next next (look0 h active) (look1 h active)
+  write_cause h None active next =
+      let v0 = side_look_buffer v 0 h.first in let v1 = side_look_buffer v 1 h.second in let both = side_look_buffer v0 1 h.second in
+      look_ends Caused h d v d.pair.next next (λ even. back0 v0 even refl) (λ even. back1 v1 even refl)
+      (λ odd even. back1 both even refl) (λ odd even. back0 (side_look_buffer v1 0 h.first) even refl)
+      (λ odd0 odd1. subst (λ (a : Option (List Counted)). CauseAt u d v (write u (record { driver = d; side = both }) s.key u.pace a).side n (write u (record { driver = d; side = both }) s.key u.pace a).answer) (sym active)
+      (none_there both u.pace refl refl refl (odd_of h.first odd0) (odd_of h.second odd1) active))
 
 -- the turn went on with the samples that were left
 next_cause : (u : Setup) (h : Two) (d : Driver) (v : Side) (n : ℕ) (l : List Marked) → answers_now u d n ≡ false → drop d.at u.samples ≡ l → d.pair.next ≤ 1

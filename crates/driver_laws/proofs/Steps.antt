@@ -10,10 +10,11 @@ use Rattle.sample_key.specs.declared.losses.Pace.{Pace}
 use Rattle.sample_key.specs.declared.losses.Pace.TheVariants.{Free, Exact}
 use Rattle.driver_model.specs.Table.{Table, entries_in, empty_table}
 use Rattle.driver_model.specs.Sides.{Side, is_even, slot_looked, slot_handed, room_after, side_hear, side_look_table, side_look_buffer}
-use Rattle.driver_model.specs.Driver.{Two, Words, ends_with, regain, hand_active, answer_with, other, word_at, look_other, look_both, find_buffer, write, write_sample, take_sample, next_sample, after_regain, turn_of, Setup, Driver, World, Turned, take_next, entry_to_write, needs_write, activate, pair_handed, buffer_header, table_header, hand_buffer, hand_table, lose, may_answer, answers_now}
+use Rattle.driver_model.specs.Driver.{Two, Words, ends_with, regain, hand_active, answer_with, other, word_at, look_other, find_buffer, write, write_sample, take_sample, next_sample, after_regain, turn_of, Setup, Driver, World, Turned, take_next, entry_to_write, needs_write, activate, pair_handed, buffer_header, table_header, hand_buffer, hand_table, lose, may_answer, answers_now}
 use Rattle.driver_model.specs.Invariant.{IsSetup, FullOrCut, CutBy, DriverInvariant}
 use Rattle.driver_model.specs.declared.answers.Turn.TheVariants.{Took, Held, Done}
 use Rattle.driver_laws.proofs.Lists.{by_number, odd_of, some_push, some_last}
+use Rattle.driver_laws.proofs.Looks.{look_ends}
 use Rattle.driver_laws.proofs.Loose.{Loose, loose_of, strict_of}
 use Rattle.driver_laws.proofs.Changes.{kept_holds, kept_hear, kept_table_back, kept_table_out, kept_counted, kept_out0, kept_out1, kept_back0, kept_back1}
 use Rattle.driver_laws.proofs.Pushes.{kept_pushed, kept_direct, kept_hand0, kept_hand1}
@@ -140,44 +141,6 @@ write_none u d v s rest Exact setup pace left mark odd0 fair0 odd1 fair1 i = str
 abbrev Writes : Setup → Key → World → Type 0
 Writes u k y = KeepsAfter u (write u y k u.pace y.driver.pair.active)
 
--- both buffers are looked at, buffer 0 first
-look_from0 : (u : Setup) (h : Two) (d : Driver) (v : Side) (s : Marked) (rest : List Marked) → IsSetup u → u.size ≡ v.buffer → AreFairWords v h → d.pair.active ≡ None
-    → needs_write s.key d.table ≡ true → drop d.at u.samples ≡ s ∷ rest → s.mark ≤ v.heard / 2 → Loose v.third.handed 1 v.buffer u d v → Writes u s.key (look_both h d v 0)
-look_from0 u h d v s rest setup size fair none needs left mark i =
-    cond_both (is_even h.first) (record { driver = activate d 0; side = side_look_buffer v 0 h.first }) (look_other h d (side_look_buffer v 0 h.first) 1)
-    (Writes u s.key)
-    (λ even. write_active 0 u (activate d 0) (side_look_buffer v 0 h.first) s rest [] d.table setup size refl refl needs left mark
-    (kept_back0 v.third.handed 1 v.buffer u d v h.first none even i))
-    (λ odd0.
-    let v1 = side_look_buffer v 0 h.first in
-    let i1 : Loose v.third.handed 1 v.buffer u d v1 = kept_out0 v.third.handed 1 v.buffer u d v h.first none odd0 i in
-    cond_both (is_even h.second) (activate d 1) d
-    (λ (z : Driver). Writes u s.key (record { driver = z; side = side_look_buffer v1 1 h.second }))
-    (λ even. write_active 0 u (activate d 1) (side_look_buffer v1 1 h.second) s rest [] d.table setup size refl refl needs left mark
-    (kept_back1 v.third.handed 1 v.buffer u d v1 h.second none even i1))
-    (λ odd1. subst (λ (a : Option (List Counted)). KeepsAfter u (write u (record { driver = d; side = side_look_buffer v1 1 h.second }) s.key u.pace a)) (sym none)
-    (write_none u d (side_look_buffer v1 1 h.second) s rest u.pace setup refl left mark (odd_of h.first odd0) (fair.0 odd0) (odd_of h.second odd1) (fair.1 odd1)
-    (kept_out1 v.third.handed 1 v.buffer u d v1 h.second none odd1 i1))))
-
--- both buffers are looked at, buffer 1 first
-look_from1 : (u : Setup) (h : Two) (d : Driver) (v : Side) (s : Marked) (rest : List Marked) → IsSetup u → u.size ≡ v.buffer → AreFairWords v h → d.pair.active ≡ None
-    → needs_write s.key d.table ≡ true → drop d.at u.samples ≡ s ∷ rest → s.mark ≤ v.heard / 2 → Loose v.third.handed 1 v.buffer u d v → Writes u s.key (look_both h d v 1)
-look_from1 u h d v s rest setup size fair none needs left mark i =
-    cond_both (is_even h.second) (record { driver = activate d 1; side = side_look_buffer v 1 h.second }) (look_other h d (side_look_buffer v 1 h.second) 0)
-    (Writes u s.key)
-    (λ even. write_active 0 u (activate d 1) (side_look_buffer v 1 h.second) s rest [] d.table setup size refl refl needs left mark
-    (kept_back1 v.third.handed 1 v.buffer u d v h.second none even i))
-    (λ odd1.
-    let v1 = side_look_buffer v 1 h.second in
-    let i1 : Loose v.third.handed 1 v.buffer u d v1 = kept_out1 v.third.handed 1 v.buffer u d v h.second none odd1 i in
-    cond_both (is_even h.first) (activate d 0) d
-    (λ (z : Driver). Writes u s.key (record { driver = z; side = side_look_buffer v1 0 h.first }))
-    (λ even. write_active 0 u (activate d 0) (side_look_buffer v1 0 h.first) s rest [] d.table setup size refl refl needs left mark
-    (kept_back0 v.third.handed 1 v.buffer u d v1 h.first none even i1))
-    (λ odd0. subst (λ (a : Option (List Counted)). KeepsAfter u (write u (record { driver = d; side = side_look_buffer v1 0 h.first }) s.key u.pace a)) (sym none)
-    (write_none u d (side_look_buffer v1 0 h.first) s rest u.pace setup refl left mark (odd_of h.first odd0) (fair.0 odd0) (odd_of h.second odd1) (fair.1 odd1)
-    (kept_out0 v.third.handed 1 v.buffer u d v1 h.first none odd0 i1))))
-
 -- the sample needs a write, by what is active
 write_kept : (u : Setup) (h : Two) (d : Driver) (v : Side) (s : Marked) (rest : List Marked) (a : Option (List Counted)) → IsSetup u → u.size ≡ v.buffer → AreFairWords v h
     → d.pair.active ≡ a → needs_write s.key d.table ≡ true → drop d.at u.samples ≡ s ∷ rest → s.mark ≤ v.heard / 2 → Loose v.third.handed 1 v.buffer u d v
@@ -186,9 +149,18 @@ write_kept u h d v s rest (Some es) setup size fair active needs left mark i =
     subst (λ (a : Option (List Counted)). KeepsAfter u (write u (record { driver = d; side = v }) s.key u.pace a)) (sym active)
     (write_active 1 u d v s rest es d.table setup size active refl needs left mark i)
 write_kept u h d v s rest None setup size fair active needs left mark i =
-    by_number (λ (b : ℕ). Writes u s.key (look_both h d v b)) d.pair.next i.next
-    (look_from0 u h d v s rest setup size fair active needs left mark i)
-    (look_from1 u h d v s rest setup size fair active needs left mark i)
+    let tables = v.third.handed in let most = v.buffer in
+    let v0 = side_look_buffer v 0 h.first in let v1 = side_look_buffer v 1 h.second in let both = side_look_buffer v0 1 h.second in
+    look_ends (Writes u s.key) h d v d.pair.next i.next
+    (λ even. write_active 0 u (activate d 0) v0 s rest [] d.table setup size refl refl needs left mark (kept_back0 tables 1 most u d v h.first active even i))
+    (λ even. write_active 0 u (activate d 1) v1 s rest [] d.table setup size refl refl needs left mark (kept_back1 tables 1 most u d v h.second active even i))
+    (λ odd even. write_active 0 u (activate d 1) both s rest [] d.table setup size refl refl needs left mark
+    (kept_back1 tables 1 most u d v0 h.second active even (kept_out0 tables 1 most u d v h.first active odd i)))
+    (λ odd even. write_active 0 u (activate d 0) (side_look_buffer v1 0 h.first) s rest [] d.table setup size refl refl needs left mark
+    (kept_back0 tables 1 most u d v1 h.first active even (kept_out1 tables 1 most u d v h.second active odd i)))
+    (λ odd0 odd1. subst (λ (a : Option (List Counted)). KeepsAfter u (write u (record { driver = d; side = both }) s.key u.pace a)) (sym active)
+    (write_none u d both s rest u.pace setup refl left mark (odd_of h.first odd0) (fair.0 odd0) (odd_of h.second odd1) (fair.1 odd1)
+    (kept_out1 tables 1 most u d v0 h.second active odd1 (kept_out0 tables 1 most u d v h.first active odd0 i))))
 
 -- the next sample is due, by where the table is
 sample_kept : (u : Setup) (h : Two) (d : Driver) (v : Side) (s : Marked) (rest : List Marked) (o : Option Table) → IsSetup u → u.size ≡ v.buffer → AreFairWords v h
