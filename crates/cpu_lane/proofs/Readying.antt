@@ -9,8 +9,9 @@ use Rattle.driver_model.specs.Table.{Table}
 use Rattle.driver_model.specs.Sides.{Side, HasRoomFor, is_even, side_look_buffer}
 use Rattle.driver_model.specs.Driver.{Setup, Buffers, Driver, World, Two, activate, other, word_at, look_other, look_both, find_buffer, take_next}
 use Rattle.driver_model.specs.Invariant.{table_entries, active_entries, is_active}
-use Rattle.driver_laws.proofs.Lists.{by_number, next_below}
+use Rattle.driver_laws.proofs.Lists.{next_below}
 use Rattle.driver_laws.proofs.Changes.{with_held, with_words}
+use Rattle.driver_laws.proofs.Looks.{look_ends}
 use Rattle.driver_laws.proofs.Marks.{due_later, due_next}
 use Rattle.overflow_pair.specs.Contents.{Contents, HasSpace, pushed, entries_if}
 use Rattle.lane_side.specs.Fixed.{Fixed}
@@ -77,31 +78,16 @@ ready_out1 : (u : Setup) (f : Fixed) (d : Driver) (v : Side) (w : ℕ) → Ready
 ready_out1 u f d v w r none odd =
     ready_holds u f d d v (side_look_buffer v 1 w) refl refl r.holds0 (odd ∙ sym (ap (λ (a : Option (List Counted)). is_some a && eqb d.pair.active_number 1) none)) r.holds2 r.table r.active r.number (omega arith) r
 
--- both were looked at, buffer 0 first
-ready_both0 : (u : Setup) (f : Fixed) (h : Two) (d : Driver) (v : Side) → Ready u f d v → d.pair.active ≡ None → Ready u f (look_both h d v 0).driver (look_both h d v 0).side
-ready_both0 u f h d v r none =
-    let x = side_look_buffer v 0 h.first in
-    cond_both (is_even h.first) (record { driver = activate d 0; side = x }) (look_other h d x 1) (λ (y : World). Ready u f y.driver y.side)
-    (λ even. ready_back0 u f d v h.first r none even)
-    (λ odd. let s = ready_out0 u f d v h.first r none odd in
-    cond_both (is_even h.second) (activate d 1) d (λ (e : Driver). Ready u f e (side_look_buffer x 1 h.second))
-    (λ even. ready_back1 u f d x h.second s none even) (λ out. ready_out1 u f d x h.second s none out))
-
--- buffer 1 first
-ready_both1 : (u : Setup) (f : Fixed) (h : Two) (d : Driver) (v : Side) → Ready u f d v → d.pair.active ≡ None → Ready u f (look_both h d v 1).driver (look_both h d v 1).side
-ready_both1 u f h d v r none =
-    let x = side_look_buffer v 1 h.second in
-    cond_both (is_even h.second) (record { driver = activate d 1; side = x }) (look_other h d x 0) (λ (y : World). Ready u f y.driver y.side)
-    (λ even. ready_back1 u f d v h.second r none even)
-    (λ odd. let s = ready_out1 u f d v h.second r none odd in
-    cond_both (is_even h.first) (activate d 0) d (λ (e : Driver). Ready u f e (side_look_buffer x 0 h.first))
-    (λ even. ready_back0 u f d x h.first s none even) (λ out. ready_out0 u f d x h.first s none out))
-
 -- a buffer was looked for where none was active
 pub ready_find : (u : Setup) (f : Fixed) (h : Two) (d : Driver) (v : Side) (a : Option (List Counted)) → Ready u f d v → d.pair.active ≡ a → Ready u f (find_buffer h d v a).driver (find_buffer h d v a).side
 ready_find u f h d v (Some es) r active = r
 ready_find u f h d v None r active =
-    by_number (λ (n : ℕ). Ready u f (look_both h d v n).driver (look_both h d v n).side) d.pair.next r.next (ready_both0 u f h d v r active) (ready_both1 u f h d v r active)
+    let v0 = side_look_buffer v 0 h.first in let v1 = side_look_buffer v 1 h.second in
+    look_ends (λ (y : World). Ready u f y.driver y.side) h d v d.pair.next r.next
+    (λ even. ready_back0 u f d v h.first r active even) (λ even. ready_back1 u f d v h.second r active even)
+    (λ odd even. ready_back1 u f d v0 h.second (ready_out0 u f d v h.first r active odd) active even)
+    (λ odd even. ready_back0 u f d v1 h.first (ready_out1 u f d v h.second r active odd) active even)
+    (λ odd0 odd1. ready_out1 u f d v0 h.second (ready_out0 u f d v h.first r active odd0) active odd1)
 
 -- what looks for a buffer leave
 pub record Stays (d : Driver) (v : Side) (y : World) : Type 0 where
