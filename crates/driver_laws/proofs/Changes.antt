@@ -18,7 +18,7 @@ use Rattle.driver_laws.proofs.Adds.{out_weight, add_weighs, add_grows}
 use Rattle.driver_laws.proofs.Tables.{table_kept, table_empty, empty_entries}
 use Rattle.driver_laws.proofs.Marks.{due_later, due_next}
 use Rattle.driver_laws.proofs.Loose.{Loose}
-use Rattle.driver_laws.proofs.Parts.{exact_same, bounded_from, out_count, tally_all, tally_placed, tally_written, out_none}
+use Rattle.driver_laws.proofs.Parts.{upto_later, exact_same, bounded_from, out_count, tally_all, tally_placed, tally_written, out_none}
 
 -- the small changes of a turn, each of which keeps the invariant
 
@@ -176,9 +176,9 @@ kept_taken tables least most fewest fewer u d e v s rest rising left mark holds_
       hands1 = i.hands1;
       hands2 = i.hands2;
       at = due_next u.samples 0 d.at (v.heard / 2) s rest rising left mark;
-      upto0 = all_map (λ b. b.note.upto ≤ d.at) (λ b. b.note.upto ≤ d.at + 1) (λ b h. omega arith) v.first.handed i.upto0;
-      upto1 = all_map (λ b. b.note.upto ≤ d.at) (λ b. b.note.upto ≤ d.at + 1) (λ b h. omega arith) v.second.handed i.upto1;
-      upto2 = all_map (λ b. b.note.upto ≤ d.at) (λ b. b.note.upto ≤ d.at + 1) (λ b h. omega arith) v.third.handed i.upto2;
+      upto0 = upto_later d.at v.first.handed i.upto0;
+      upto1 = upto_later d.at v.second.handed i.upto1;
+      upto2 = upto_later d.at v.third.handed i.upto2;
       in_order = losses_later u d (d.at + 1) (omega arith) i.in_order;
       rise = i.rise;
       last = i.last;

@@ -19,7 +19,7 @@ use Rattle.driver_laws.proofs.Weights.{batched-push, upto_push, lost-push, below
 use Rattle.driver_laws.proofs.Tables.{table_fits}
 use Rattle.driver_laws.proofs.Marks.{due_most, due_all, due_next, due_within}
 use Rattle.driver_laws.proofs.Loose.{Loose}
-use Rattle.driver_laws.proofs.Parts.{bounded_from, all_each, entries-push, last_answer-push, Rises, answers_most, flush_lost, out_now}
+use Rattle.driver_laws.proofs.Parts.{losses_before, upto_later, bounded_from, entries-push, last_answer-push, Rises, answers_most, flush_lost, out_now}
 use Rattle.driver_laws.proofs.Changes.{losses_later}
 
 -- what ends a turn besides: the sample is lost, or a flush is answered
@@ -58,13 +58,13 @@ kept_lost tables least most u d v s rest rising free left mark odd0 fair0 odd1 f
       hands1 = i.hands1;
       hands2 = i.hands2;
       at = due_next u.samples 0 d.at (v.heard / 2) s rest rising left mark;
-      upto0 = all_map (λ b. b.note.upto ≤ d.at) (λ b. b.note.upto ≤ d.at + 1) (λ b h. omega arith) v.first.handed i.upto0;
-      upto1 = all_map (λ b. b.note.upto ≤ d.at) (λ b. b.note.upto ≤ d.at + 1) (λ b h. omega arith) v.second.handed i.upto1;
-      upto2 = all_map (λ b. b.note.upto ≤ d.at) (λ b. b.note.upto ≤ d.at + 1) (λ b h. omega arith) v.third.handed i.upto2;
+      upto0 = upto_later d.at v.first.handed i.upto0;
+      upto1 = upto_later d.at v.second.handed i.upto1;
+      upto2 = upto_later d.at v.third.handed i.upto2;
       in_order = each_push (λ done m. (m.index < d.at + 1) × AllOf (λ o. o.index < m.index) done × IsSomeAnd (slice_get u.samples m.index) (λ c. m.event ≡ c.key.event)) [] d.losses l
           (losses_later u d (d.at + 1) (omega arith) i.in_order) (
             omega arith,
-            all_each (λ done m. (m.index < d.at) × AllOf (λ o. o.index < m.index) done × IsSomeAnd (slice_get u.samples m.index) (λ c. m.event ≡ c.key.event)) (λ m. m.index < d.at) (λ done m h. h.0) [] d.losses i.in_order,
+            losses_before u d i.in_order,
             subst (λ (z : Option Marked). IsSomeAnd z (λ c. s.key.event ≡ c.key.event)) (sym there) refl,
           );
       rise = i.rise;
@@ -106,9 +106,7 @@ closed_by most u d v w t setup active held here odd above may i =
     let is : IsTable v.buckets t = subst (λ (z : Option Table). IfSome z (IsTable v.buckets)) held i.table in
     let at : d.at ≤ due u.samples (w / 2) = subst (λ (n : ℕ). d.at ≤ due u.samples (n / 2)) (sym here) i.at in
     let most_at : d.at ≤ length u.samples = omega (arith, i.at, due_most u.samples (v.heard / 2)) in
-    let before : AllOf (λ l. l.index < d.at) d.losses =
-    all_each (λ done l. (l.index < d.at) × AllOf (λ m. m.index < l.index) done × IsSomeAnd (slice_get u.samples l.index) (λ s. l.event ≡ s.key.event))
-    (λ l. l.index < d.at) (λ done l h. h.0) [] d.losses i.in_order in
+    let before : AllOf (λ l. l.index < d.at) d.losses = losses_before u d i.in_order in
     let conserved : IsConserved u (hand_table u d v w t).driver (hand_table u d v w t).side =
     λ k. omega (arith, i.conserved k, ap (λ (z : Option Table). weight k (table_entries z)) held, batched-push k v.third.handed x) in
     let whole : IsWholeFlush u.samples v.first.handed v.second.handed d.losses v.third.handed x = record {

@@ -33,7 +33,8 @@ hand_left u d v b es =
     cond_both (eqb b 0) (record v { steps = v.steps + 1; first = slot_handed v.first x; room = room_after v.room x }) (record v { steps = v.steps + 1; second = slot_handed v.second x; room = room_after v.room x })
     (LeavesBell v) (λ e. record { hears = refl; heard = refl; buckets = refl; buffer = refl; read = refl; tries = refl }) (λ e. record { hears = refl; heard = refl; buckets = refl; buffer = refl; read = refl; tries = refl })
 
-look_left : (v : Side) (b w : ℕ) → LeavesBell v (side_look_buffer v b w)
+-- a look at a buffer
+pub look_left : (v : Side) (b w : ℕ) → LeavesBell v (side_look_buffer v b w)
 look_left v b w =
     cond_both (eqb b 0) (record v { steps = v.steps + 1; first = slot_looked v.first w }) (record v { steps = v.steps + 1; second = slot_looked v.second w })
     (LeavesBell v) (λ e. record { hears = refl; heard = refl; buckets = refl; buffer = refl; read = refl; tries = refl }) (λ e. record { hears = refl; heard = refl; buckets = refl; buffer = refl; read = refl; tries = refl })

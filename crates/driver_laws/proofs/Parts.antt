@@ -15,11 +15,11 @@ use Rattle.driver_model.specs.Lists.{EachFrom, AllOf}
 use Rattle.driver_model.specs.Table.{given_out}
 use Rattle.driver_model.specs.Sides.{Side}
 use Rattle.driver_model.specs.Driver.{Setup, Driver, tally}
-use Rattle.driver_model.specs.Invariant.{IsConserved, IsWholeFlush, IsBounded, InOrder, WasOut, last_answer, IsExact, entries_of, handed_upto}
+use Rattle.driver_model.specs.Invariant.{IsConserved, IsWholeFlush, IsBounded, InOrder, WasOut, LossesInOrder, last_answer, IsExact, entries_of, handed_upto}
 use Rattle.driver_model.specs.declared.answers.Added.{Added}
 use Rattle.driver_model.specs.declared.answers.Added.TheVariants.{Folded, Placed, Evicted, Spilt}
 use Rattle.driver_model.specs.declared.plans.Stats.{Stats}
-use Rattle.driver_laws.proofs.Lists.{append-nil, all_last, got_push, next_push, got_last, past_end, snoc_of}
+use Rattle.driver_laws.proofs.Lists.{append-nil, all_map, all_last, got_push, next_push, got_last, past_end, snoc_of}
 use Rattle.driver_laws.proofs.Weights.{upto_le, below_le, below_push}
 use Rattle.driver_laws.proofs.Adds.{out_weight, placed_by}
 
@@ -46,6 +46,16 @@ bounded_from u d v c below n k l = elim (cases_lt n d.at) [
 pub all_each : {A : Type 0} (P : List A → A → Type 0) (Q : A → Type 0) → ((d : List A) (x : A) → P d x → Q x) → (done xs : List A) → EachFrom P done xs → AllOf Q xs
 all_each P Q f done [] h = tt
 all_each P Q f done (x ∷ xs) h = (f done x h.0, all_each P Q f (done ++ x ∷ []) xs h.1)
+
+-- each loss is of a sample taken or lost so far
+pub losses_before : (u : Setup) (d : Driver) → LossesInOrder u d → AllOf (λ l. l.index < d.at) d.losses
+losses_before u d h =
+    all_each (λ done l. (l.index < d.at) × AllOf (λ m. m.index < l.index) done × IsSomeAnd (slice_get u.samples l.index) (λ s. l.event ≡ s.key.event))
+    (λ l. l.index < d.at) (λ done l g. g.0) [] d.losses h
+
+-- batches that go up to so many samples go up to one more
+pub upto_later : (n : ℕ) (bs : List Sent) → AllOf (λ b. b.note.upto ≤ n) bs → AllOf (λ b. b.note.upto ≤ n + 1) bs
+upto_later n bs h = all_map (λ b. b.note.upto ≤ n) (λ b. b.note.upto ≤ n + 1) (λ b g. omega arith) bs h
 
 -- the last element, with those before it
 pub each_last : {A : Type 0} (P : List A → A → Type 0) (done xs : List A) (y : A) → EachFrom P done (xs ++ y ∷ []) → P (done ++ xs) y

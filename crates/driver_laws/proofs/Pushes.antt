@@ -1,5 +1,5 @@
 use Rattle.std.proofs.Common.{◌≡◌, ℕ, ◌+◌, ◌/◌, ◌<◌, ◌≤◌, List, [], ◌∷◌, ◌++◌, length, drop, refl, ◌∙◌, ap, subst, arith, true, Some, None, Option, eqb, ◌&&◌, length-append}
-use Rattle.std.specs.Prelude.{is_some, IfSome, IsSomeAnd, slice_get, ◌⊎◌}
+use Rattle.std.specs.Prelude.{is_some, IfSome, ◌⊎◌}
 use Rattle.sample_key.specs.Bags.{weight, counted}
 use Rattle.sample_key.specs.Counted.{Counted, entry}
 use Rattle.sample_key.specs.Marks.{IsRising}
@@ -16,7 +16,7 @@ use Rattle.driver_laws.proofs.Weights.{weight-append, batched-push, upto_push}
 use Rattle.driver_laws.proofs.Adds.{out_weight, add_weighs, add_grows}
 use Rattle.driver_laws.proofs.Tables.{table_kept}
 use Rattle.driver_laws.proofs.Loose.{Loose}
-use Rattle.driver_laws.proofs.Parts.{exact_same, bounded_from, out_count, all_each, entries-push, tally_all, tally_placed, tally_written, out_some, flush_hand0, flush_hand1, out_push}
+use Rattle.driver_laws.proofs.Parts.{losses_before, exact_same, bounded_from, out_count, entries-push, tally_all, tally_placed, tally_written, out_some, flush_hand0, flush_hand1, out_push}
 use Rattle.driver_laws.proofs.Changes.{kept_taken}
 
 -- what a turn writes: an entry is pushed to the active buffer, which is handed when it is full
@@ -60,9 +60,7 @@ kept_hand0 tables new least most u d v es more active number some few cut i =
     let x : Sent = (record { note = buffer_header u d.at 0 (pair_handed d.pair 0); entries = es }) in
     let conserved : IsConserved u (hand_buffer u d v 0 es).driver (hand_buffer u d v 0 es).side =
     λ k. omega (arith, i.conserved k, ap (λ (z : Option (List Counted)). weight k (active_entries z)) active, batched-push k v.first.handed x) in
-    let before : AllOf (λ l. l.index < d.at) d.losses =
-    all_each (λ done l. (l.index < d.at) × AllOf (λ m. m.index < l.index) done × IsSomeAnd (slice_get u.samples l.index) (λ s. l.event ≡ s.key.event))
-    (λ l. l.index < d.at) (λ done l h. h.0) [] d.losses i.in_order in
+    let before : AllOf (λ l. l.index < d.at) d.losses = losses_before u d i.in_order in
     record {
       conserved = conserved;
       flushes = each_map (IsWholeFlush u.samples v.first.handed v.second.handed d.losses) (IsWholeFlush u.samples (v.first.handed ++ x ∷ []) v.second.handed d.losses) (λ c. Unit {0}) (λ done c r h. flush_hand0 u.samples v.first.handed v.second.handed d.losses x done c h) [] v.third.handed (all_any (λ (c : Sent). Unit {0}) (λ c. tt) v.third.handed) i.flushes;
@@ -113,9 +111,7 @@ kept_hand1 tables new least most u d v es more active number some few cut i =
     let x : Sent = (record { note = buffer_header u d.at 1 (pair_handed d.pair 1); entries = es }) in
     let conserved : IsConserved u (hand_buffer u d v 1 es).driver (hand_buffer u d v 1 es).side =
     λ k. omega (arith, i.conserved k, ap (λ (z : Option (List Counted)). weight k (active_entries z)) active, batched-push k v.second.handed x) in
-    let before : AllOf (λ l. l.index < d.at) d.losses =
-    all_each (λ done l. (l.index < d.at) × AllOf (λ m. m.index < l.index) done × IsSomeAnd (slice_get u.samples l.index) (λ s. l.event ≡ s.key.event))
-    (λ l. l.index < d.at) (λ done l h. h.0) [] d.losses i.in_order in
+    let before : AllOf (λ l. l.index < d.at) d.losses = losses_before u d i.in_order in
     record {
       conserved = conserved;
       flushes = each_map (IsWholeFlush u.samples v.first.handed v.second.handed d.losses) (IsWholeFlush u.samples v.first.handed (v.second.handed ++ x ∷ []) d.losses) (λ c. Unit {0}) (λ done c r h. flush_hand1 u.samples v.first.handed v.second.handed d.losses x done c h) [] v.third.handed (all_any (λ (c : Sent). Unit {0}) (λ c. tt) v.third.handed) i.flushes;
