@@ -11,6 +11,7 @@ use Rattle.driver_model.specs.Driver.{Setup, Buffers, Driver, World, Two, activa
 use Rattle.driver_model.specs.Invariant.{table_entries, active_entries, is_active}
 use Rattle.driver_laws.proofs.Lists.{next_below}
 use Rattle.driver_laws.proofs.Changes.{with_held, with_words}
+use Rattle.driver_laws.proofs.Lefts.{look_left}
 use Rattle.driver_laws.proofs.Looks.{look_ends}
 use Rattle.driver_laws.proofs.Marks.{due_later, due_next}
 use Rattle.overflow_pair.specs.Contents.{Contents, HasSpace, pushed, entries_if}
@@ -97,7 +98,7 @@ pub record Stays (d : Driver) (v : Side) (y : World) : Type 0 where
 
 look_stays : (d : Driver) (v : Side) (b w : ℕ) → Stays d v (looked d v b w)
 look_stays d v b w =
-    let heard : (side_look_buffer v b w).heard ≡ v.heard = cond_both (eqb b 0) (side_look_buffer v 0 w) (side_look_buffer v 1 w) (λ (x : Side). x.heard ≡ v.heard) (λ e. refl) (λ e. refl) in
+    let heard : (side_look_buffer v b w).heard ≡ v.heard = (look_left v b w).heard in
     cond_both (is_even w) (activate d b) d (λ (e : Driver). Stays d v (record { driver = e; side = side_look_buffer v b w }))
     (λ even. record { at = refl; table = refl; heard = heard }) (λ odd. record { at = refl; table = refl; heard = heard })
 
@@ -105,7 +106,7 @@ pub find_stays : (h : Two) (d : Driver) (v : Side) (a : Option (List Counted)) �
 find_stays h d v (Some es) = record { at = refl; table = refl; heard = refl }
 find_stays h d v None =
     let b = d.pair.next in let x = side_look_buffer v b (word_at h b) in
-    let heard : x.heard ≡ v.heard = cond_both (eqb b 0) (side_look_buffer v 0 (word_at h b)) (side_look_buffer v 1 (word_at h b)) (λ (x : Side). x.heard ≡ v.heard) (λ e. refl) (λ e. refl) in
+    let heard : x.heard ≡ v.heard = (look_left v b (word_at h b)).heard in
     cond_both (is_even (word_at h b)) (record { driver = activate d b; side = x }) (look_other h d x (other b)) (Stays d v)
     (λ even. record { at = refl; table = refl; heard = heard })
     (λ odd. let s = look_stays d x (other b) (word_at h (other b)) in record { at = s.at; table = s.table; heard = s.heard ∙ heard })
