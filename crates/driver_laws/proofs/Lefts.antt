@@ -1,16 +1,16 @@
-use Rattle.std.proofs.Common.{◌≡◌, ℕ, ◌+◌, ◌/◌, List, [], ◌∷◌, ◌++◌, length, drop, refl, sym, ◌∙◌, subst, false, Some, None, Option, leb, ltb, eqb}
+use Rattle.std.proofs.Common.{◌≡◌, ℕ, ◌/◌, List, [], ◌∷◌, ◌++◌, length, drop, refl, sym, ◌∙◌, subst, false, Some, None, Option, leb, ltb}
 use Rattle.std.proofs.lemmas.Bool.{cond_both, cond-false}
 use Rattle.sample_key.specs.Counted.{Counted}
-use Rattle.sample_key.specs.Sent.{Sent}
 use Rattle.sample_key.specs.declared.keys.Key.{Key}
 use Rattle.sample_key.specs.declared.keys.Marked.{Marked}
 use Rattle.sample_key.specs.declared.losses.Pace.{Pace}
 use Rattle.sample_key.specs.declared.losses.Pace.TheVariants.{Free, Exact}
 use Rattle.driver_model.specs.Table.{Table}
-use Rattle.driver_model.specs.Sides.{Side, is_even, slot_looked, slot_handed, room_after, side_hear, side_look_buffer}
-use Rattle.driver_model.specs.Driver.{Two, Words, ends_with, regain, hand_active, answer_with, other, word_at, look_other, find_buffer, push, write, write_sample, take_sample, next_sample, after_regain, turn_of, Setup, Driver, World, Turned, take_next, entry_to_write, needs_write, activate, pair_handed, buffer_header, hand_buffer, hand_table, answers_now}
+use Rattle.driver_model.specs.Sides.{Side, is_even, side_hear, side_look_buffer}
+use Rattle.driver_model.specs.Driver.{buffer_batch, Two, Words, ends_with, regain, hand_active, answer_with, other, word_at, look_other, find_buffer, push, write, write_sample, take_sample, next_sample, after_regain, turn_of, Setup, Driver, World, Turned, take_next, entry_to_write, needs_write, activate, pair_handed, hand_buffer, hand_table, answers_now}
 use Rattle.driver_model.specs.declared.answers.Turn.TheVariants.{Took, Held, Done}
 use Rattle.driver_laws.specs.Turns.{HearsOnce}
+use Rattle.driver_laws.proofs.Looks.{by_hand, by_look}
 
 -- what the calls of a turn leave after the bell was heard and the table looked for
 pub record LeavesBell (v w : Side) : Type 0 where
@@ -29,15 +29,12 @@ two_left v w x a b = record { hears = b.hears ∙ a.hears; heard = b.heard ∙ a
 
 hand_left : (u : Setup) (d : Driver) (v : Side) (b : ℕ) (es : List Counted) → LeavesBell v (hand_buffer u d v b es).side
 hand_left u d v b es =
-    let x : Sent = record { note = buffer_header u d.at b (pair_handed d.pair b); entries = es } in
-    cond_both (eqb b 0) (record v { steps = v.steps + 1; first = slot_handed v.first x; room = room_after v.room x }) (record v { steps = v.steps + 1; second = slot_handed v.second x; room = room_after v.room x })
-    (LeavesBell v) (λ e. record { hears = refl; heard = refl; buckets = refl; buffer = refl; read = refl; tries = refl }) (λ e. record { hears = refl; heard = refl; buckets = refl; buffer = refl; read = refl; tries = refl })
+    by_hand (LeavesBell v) v b (buffer_batch u d.at b (pair_handed d.pair b) es) (record { hears = refl; heard = refl; buckets = refl; buffer = refl; read = refl; tries = refl }) (record { hears = refl; heard = refl; buckets = refl; buffer = refl; read = refl; tries = refl })
 
 -- a look at a buffer
 pub look_left : (v : Side) (b w : ℕ) → LeavesBell v (side_look_buffer v b w)
 look_left v b w =
-    cond_both (eqb b 0) (record v { steps = v.steps + 1; first = slot_looked v.first w }) (record v { steps = v.steps + 1; second = slot_looked v.second w })
-    (LeavesBell v) (λ e. record { hears = refl; heard = refl; buckets = refl; buffer = refl; read = refl; tries = refl }) (λ e. record { hears = refl; heard = refl; buckets = refl; buffer = refl; read = refl; tries = refl })
+    by_look (LeavesBell v) v b w (record { hears = refl; heard = refl; buckets = refl; buffer = refl; read = refl; tries = refl }) (record { hears = refl; heard = refl; buckets = refl; buffer = refl; read = refl; tries = refl })
 
 table_left : (u : Setup) (d : Driver) (v : Side) (w : ℕ) (t : Table) → LeavesBell v (hand_table u d v w t).side
 table_left u d v w t = record { hears = refl; heard = refl; buckets = refl; buffer = refl; read = refl; tries = refl }

@@ -10,12 +10,13 @@ use Rattle.sample_key.specs.declared.keys.Marked.{Marked}
 use Rattle.sample_key.specs.declared.losses.Pace.{Pace}
 use Rattle.sample_key.specs.declared.losses.Pace.TheVariants.{Free, Exact}
 use Rattle.driver_model.specs.Table.{Table, empty_table}
-use Rattle.driver_model.specs.Sides.{Side, is_even, slot_handed, room_after, side_hear, side_look_table, side_look_buffer}
+use Rattle.driver_model.specs.Sides.{Side, is_even, side_hear, side_look_table, side_look_buffer}
 use Rattle.driver_model.specs.Driver.{Setup, Driver, World, Two, Words, Turned, ends_with, regain, pair_handed, buffer_batch, table_batch, hand_buffer, hand_active, answer_with, answers_now, may_answer, take_next, entry_to_write, needs_write, activate, other, word_at, look_other, find_buffer, push, write, write_sample, take_sample, next_sample, after_regain, turn_of}
 use Rattle.driver_model.specs.Invariant.{IsSetup}
 use Rattle.driver_model.specs.declared.answers.Turn.TheVariants.{Took, Held, Done}
 use Rattle.driver_laws.proofs.Lists.{none_left}
 use Rattle.driver_laws.specs.Doings.{GetsOn}
+use Rattle.driver_laws.proofs.Looks.{by_hand}
 
 -- the next sample was taken
 taken_at : (d : Driver) (k : Key) (o : Option Table) → (take_next d k o).at ≡ d.at + 1
@@ -78,9 +79,8 @@ active_at u d v (Some es) = refl
 active_third : (u : Setup) (d : Driver) (v : Side) (a : Option (List Counted)) → (hand_active u d v a).side.third.handed ≡ v.third.handed
 active_third u d v None = refl
 active_third u d v (Some es) =
-    let b = d.pair.active_number in let x : Sent = buffer_batch u d.at b (pair_handed d.pair b) es in
-    cond_both (eqb b 0) (record v { steps = v.steps + 1; first = slot_handed v.first x; room = room_after v.room x }) (record v { steps = v.steps + 1; second = slot_handed v.second x; room = room_after v.room x })
-    (λ (z : Side). z.third.handed ≡ v.third.handed) (λ e. refl) (λ e. refl)
+    let b = d.pair.active_number in
+    by_hand (λ (z : Side). z.third.handed ≡ v.third.handed) v b (buffer_batch u d.at b (pair_handed d.pair b) es) refl refl
 
 answer_later : (u : Setup) (x : World) (w : ℕ) (o : Option Table) → x.driver.at ≤ (answer_with u x w o).driver.at
 answer_later u x w None = omega arith

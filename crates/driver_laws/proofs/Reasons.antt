@@ -2,18 +2,17 @@ use Rattle.std.proofs.Common.{◌≡◌, ℕ, ◌+◌, ◌/◌, ◌%◌, ◌≤�
 use Rattle.std.specs.Prelude.{is_some}
 use Rattle.std.proofs.lemmas.Bool.{cond_both, cond-true, cond-false, both_ways, and_parts}
 use Rattle.sample_key.specs.Counted.{Counted}
-use Rattle.sample_key.specs.Sent.{Sent}
 use Rattle.sample_key.specs.declared.keys.Key.{Key}
 use Rattle.sample_key.specs.declared.keys.Marked.{Marked}
 use Rattle.sample_key.specs.declared.losses.Pace.{Pace}
 use Rattle.sample_key.specs.declared.losses.Pace.TheVariants.{Free, Exact}
 use Rattle.driver_model.specs.Table.{Table, empty_table}
-use Rattle.driver_model.specs.Sides.{Side, is_even, slot_handed, room_after, side_hear, side_look_table, side_look_buffer}
-use Rattle.driver_model.specs.Driver.{Two, Words, ends_with, regain, hand_active, answer_with, find_buffer, push, write, write_sample, take_sample, next_sample, after_regain, turn_of, Setup, Driver, World, Turned, take_next, entry_to_write, needs_write, activate, pair_handed, buffer_header, hand_buffer, hand_table, may_answer, answers_now}
+use Rattle.driver_model.specs.Sides.{Side, is_even, side_hear, side_look_table, side_look_buffer}
+use Rattle.driver_model.specs.Driver.{buffer_batch, Two, Words, ends_with, regain, hand_active, answer_with, find_buffer, push, write, write_sample, take_sample, next_sample, after_regain, turn_of, Setup, Driver, World, Turned, take_next, entry_to_write, needs_write, activate, pair_handed, hand_buffer, hand_table, may_answer, answers_now}
 use Rattle.driver_model.specs.declared.answers.Turn.TheVariants.{Took, Held, Answered, Done}
 use Rattle.driver_laws.specs.Causes.{table_after, with_table, HasBuffer, CauseAt, CauseOf}
 use Rattle.driver_laws.proofs.Lists.{odd_of}
-use Rattle.driver_laws.proofs.Looks.{look_ends}
+use Rattle.driver_laws.proofs.Looks.{by_hand, look_ends}
 use Rattle.driver_laws.proofs.Lefts.{after_left, hears_turn}
 
 -- the causes, along the definition of the turn
@@ -24,9 +23,7 @@ Words4 v w = (w.first.tries ≡ v.first.tries) × (w.first.read ≡ v.first.read
 
 hand_words : (u : Setup) (d : Driver) (v : Side) (b : ℕ) (es : List Counted) → Words4 v (hand_buffer u d v b es).side
 hand_words u d v b es =
-    let x : Sent = record { note = buffer_header u d.at b (pair_handed d.pair b); entries = es } in
-    cond_both (eqb b 0) (record v { steps = v.steps + 1; first = slot_handed v.first x; room = room_after v.room x }) (record v { steps = v.steps + 1; second = slot_handed v.second x; room = room_after v.room x })
-    (Words4 v) (λ e. (refl, refl, refl, refl)) (λ e. (refl, refl, refl, refl))
+    by_hand (Words4 v) v b (buffer_batch u d.at b (pair_handed d.pair b) es) (refl, refl, refl, refl) (refl, refl, refl, refl)
 
 push_words : (u : Setup) (y : World) (k : Key) (es : List Counted) → Words4 y.side (push u y k es).side
 push_words u y k es =

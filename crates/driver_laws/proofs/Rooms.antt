@@ -1,4 +1,4 @@
-use Rattle.std.proofs.Common.{◌≡◌, ℕ, ◌+◌, ◌*◌, ◌/◌, ◌≤◌, List, [], ◌∷◌, ◌++◌, length, drop, refl, sym, ◌∙◌, ap, subst, arith, Some, None, Option, leb, ltb, eqb, length-append}
+use Rattle.std.proofs.Common.{◌≡◌, ℕ, ◌+◌, ◌*◌, ◌/◌, ◌≤◌, List, [], ◌∷◌, ◌++◌, length, drop, refl, sym, ◌∙◌, ap, subst, arith, Some, None, Option, leb, ltb, length-append}
 use Rattle.std.specs.Prelude.{MatchOption, IsSomeAnd}
 use Rattle.std.proofs.lemmas.Bool.{cond_both}
 use Rattle.sample_key.specs.Counted.{Counted}
@@ -9,7 +9,7 @@ use Rattle.sample_key.specs.declared.losses.Pace.{Pace}
 use Rattle.sample_key.specs.declared.losses.Pace.TheVariants.{Free, Exact}
 use Rattle.driver_model.specs.Lists.{AllOf}
 use Rattle.driver_model.specs.Table.{Table, entries_in, empty_table}
-use Rattle.driver_model.specs.Sides.{HasRoomFor, Room, Side, is_even, slot_looked, slot_handed, room_after, side_hear, side_look_table, side_look_buffer}
+use Rattle.driver_model.specs.Sides.{side_hand_buffer, HasRoomFor, Room, Side, is_even, room_after, side_hear, side_look_table, side_look_buffer}
 use Rattle.driver_model.specs.Driver.{Two, Words, ends_with, regain, hand_active, answer_with, other, word_at, look_other, find_buffer, write, write_sample, take_sample, next_sample, after_regain, turn_of, Setup, Driver, World, Turned, take_next, entry_to_write, needs_write, activate, pair_handed, buffer_header, table_header, hand_buffer, hand_table, answers_now}
 use Rattle.driver_model.specs.Invariant.{FullOrCut, last_answer, table_entries, active_entries, entries_of, DriverInvariant}
 use Rattle.driver_model.specs.declared.answers.Turn.TheVariants.{Took, Held, Done}
@@ -17,6 +17,7 @@ use Rattle.driver_laws.proofs.Tables.{empty_entries}
 use Rattle.driver_laws.proofs.Marks.{due_most}
 use Rattle.driver_laws.proofs.Parts.{entries-push, few_answers}
 use Rattle.driver_laws.specs.Turns.{hands_in, entries_handed, SameTotal, RoomLowered}
+use Rattle.driver_laws.proofs.Looks.{by_hand, by_look}
 
 -- the room of a side falls by what is handed, and by nothing else
 
@@ -59,11 +60,9 @@ one_hand v w b f e n m = at v.room f e
 buffer_room : (u : Setup) (d : Driver) (v : Side) (b : ℕ) (es : List Counted) → HasRoomFor 1 (length es) v.room → RoomLowered v (hand_buffer u d v b es).side
 buffer_room u d v b es f =
     let x : Sent = record { note = buffer_header u d.at b (pair_handed d.pair b); entries = es } in
-    let v0 : Side = record v { steps = v.steps + 1; first = slot_handed v.first x; room = room_after v.room x } in
-    let v1 : Side = record v { steps = v.steps + 1; second = slot_handed v.second x; room = room_after v.room x } in
-    cond_both (eqb b 0) v0 v1 (RoomLowered v)
-    (λ e. one_hand v v0 x f refl (omega (arith, length-append v.first.handed (x ∷ []))) (omega (arith, entries-push v.first.handed x)))
-    (λ e. one_hand v v1 x f refl (omega (arith, length-append v.second.handed (x ∷ []))) (omega (arith, entries-push v.second.handed x)))
+    by_hand (RoomLowered v) v b x
+    (one_hand v (side_hand_buffer v 0 x) x f refl (omega (arith, length-append v.first.handed (x ∷ []))) (omega (arith, entries-push v.first.handed x)))
+    (one_hand v (side_hand_buffer v 1 x) x f refl (omega (arith, length-append v.second.handed (x ∷ []))) (omega (arith, entries-push v.second.handed x)))
 
 -- the table was handed
 table_room : (u : Setup) (d : Driver) (v : Side) (w : ℕ) (t : Table) → HasRoomFor 1 (length (entries_in t)) v.room → RoomLowered v (hand_table u d v w t).side
@@ -72,7 +71,7 @@ table_room u d v w t f =
     one_hand v (hand_table u d v w t).side x f refl (omega (arith, length-append v.third.handed (x ∷ []))) (omega (arith, entries-push v.third.handed x))
 
 -- less room is enough for less
-less_room : (a b m n : ℕ) (o : Option Room) → b ≤ a → n ≤ m → HasRoomFor a m o → HasRoomFor b n o
+pub less_room : (a b m n : ℕ) (o : Option Room) → b ≤ a → n ≤ m → HasRoomFor a m o → HasRoomFor b n o
 less_room a b m n None l k h = tt
 less_room a b m n (Some r) l k h = (omega (arith, h.0), omega (arith, h.1))
 
@@ -91,9 +90,7 @@ answer_room u d v w t None f = table_room u d v w t (less_room 2 1 (length (entr
 answer_room u d v w t (Some es) f =
     let b = d.pair.active_number in let y = hand_buffer u d v b es in
     let x : Sent = record { note = buffer_header u d.at b (pair_handed d.pair b); entries = es } in
-    let room : y.side.room ≡ room_after v.room x =
-    cond_both (eqb b 0) (record v { steps = v.steps + 1; first = slot_handed v.first x; room = room_after v.room x }) (record v { steps = v.steps + 1; second = slot_handed v.second x; room = room_after v.room x })
-    (λ (z : Side). z.room ≡ room_after v.room x) (λ e. refl) (λ e. refl) in
+    let room : y.side.room ≡ room_after v.room x = by_hand (λ (z : Side). z.room ≡ room_after v.room x) v b x refl refl in
     two_rooms v y.side (hand_table u y.driver y.side w t).side
     (buffer_room u d v b es (less_room 2 1 (length (entries_in t) + length es + 1) (length es) v.room (omega arith) (omega arith) f))
     (table_room u y.driver y.side w t (after_room (length (entries_in t) + length es + 1) (length (entries_in t)) v y.side x room (omega arith) f))
@@ -101,10 +98,8 @@ answer_room u d v w t (Some es) f =
 -- a look leaves the room and the batches
 look_room : (v : Side) (b w : ℕ) → ((side_look_buffer v b w).room ≡ v.room) × RoomLowered v (side_look_buffer v b w)
 look_room v b w =
-    cond_both (eqb b 0) (record v { steps = v.steps + 1; first = slot_looked v.first w }) (record v { steps = v.steps + 1; second = slot_looked v.second w })
-    (λ (z : Side). (z.room ≡ v.room) × RoomLowered v z)
-    (λ e. (refl, same_room v (record v { steps = v.steps + 1; first = slot_looked v.first w }) refl refl refl refl))
-    (λ e. (refl, same_room v (record v { steps = v.steps + 1; second = slot_looked v.second w }) refl refl refl refl))
+    by_look (λ (z : Side). (z.room ≡ v.room) × RoomLowered v z) v b w
+    (refl, same_room v (side_look_buffer v 0 w) refl refl refl refl) (refl, same_room v (side_look_buffer v 1 w) refl refl refl refl)
 
 -- what a write hands, where the active buffer has at most so many entries
 write_room : (u : Setup) (y : World) (k : Key) (p : Pace) (a : Option (List Counted)) (n : ℕ) → length (active_entries a) ≤ n → HasRoomFor 1 (n + 1) y.side.room → RoomLowered y.side (write u y k p a).side

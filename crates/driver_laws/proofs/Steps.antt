@@ -9,12 +9,12 @@ use Rattle.sample_key.specs.declared.keys.Marked.{Marked}
 use Rattle.sample_key.specs.declared.losses.Pace.{Pace}
 use Rattle.sample_key.specs.declared.losses.Pace.TheVariants.{Free, Exact}
 use Rattle.driver_model.specs.Table.{Table, entries_in, empty_table}
-use Rattle.driver_model.specs.Sides.{Side, is_even, slot_looked, slot_handed, room_after, side_hear, side_look_table, side_look_buffer}
-use Rattle.driver_model.specs.Driver.{Two, Words, ends_with, regain, hand_active, answer_with, other, word_at, look_other, find_buffer, write, write_sample, take_sample, next_sample, after_regain, turn_of, Setup, Driver, World, Turned, take_next, entry_to_write, needs_write, activate, pair_handed, buffer_header, table_header, hand_buffer, hand_table, lose, may_answer, answers_now}
+use Rattle.driver_model.specs.Sides.{Side, is_even, side_hear, side_look_table, side_look_buffer}
+use Rattle.driver_model.specs.Driver.{buffer_batch, Two, Words, ends_with, regain, hand_active, answer_with, other, word_at, look_other, find_buffer, write, write_sample, take_sample, next_sample, after_regain, turn_of, Setup, Driver, World, Turned, take_next, entry_to_write, needs_write, activate, pair_handed, buffer_header, table_header, hand_buffer, hand_table, lose, may_answer, answers_now}
 use Rattle.driver_model.specs.Invariant.{IsSetup, FullOrCut, CutBy, DriverInvariant}
 use Rattle.driver_model.specs.declared.answers.Turn.TheVariants.{Took, Held, Done}
 use Rattle.driver_laws.proofs.Lists.{by_number, odd_of, some_push, some_last}
-use Rattle.driver_laws.proofs.Looks.{look_ends}
+use Rattle.driver_laws.proofs.Looks.{by_hand, by_look, look_ends}
 use Rattle.driver_laws.proofs.Loose.{Loose, loose_of, strict_of}
 use Rattle.driver_laws.proofs.Changes.{kept_holds, kept_hear, kept_table_back, kept_table_out, kept_counted, kept_out0, kept_out1, kept_back0, kept_back1}
 use Rattle.driver_laws.proofs.Pushes.{kept_pushed, kept_direct, kept_hand0, kept_hand1}
@@ -213,24 +213,15 @@ kept_turn u h d v setup size fair later i =
 abbrev Within : Side → ℕ → Turned → Type 0
 Within v n t = t.side.steps ≤ v.steps + n
 
-hand_active_steps : (u : Setup) (d : Driver) (v : Side) (a : Option (List Counted)) → (hand_active u d v a).side.steps ≤ v.steps + 1
-hand_active_steps u d v None = omega arith
-hand_active_steps u d v (Some es) =
-    cond_both (eqb d.pair.active_number 0)
-    (record v { steps = v.steps + 1; first = slot_handed v.first (record { note = buffer_header u d.at d.pair.active_number (pair_handed d.pair d.pair.active_number); entries = es }); room = room_after v.room (record { note = buffer_header u d.at d.pair.active_number (pair_handed d.pair d.pair.active_number); entries = es }) })
-    (record v { steps = v.steps + 1; second = slot_handed v.second (record { note = buffer_header u d.at d.pair.active_number (pair_handed d.pair d.pair.active_number); entries = es }); room = room_after v.room (record { note = buffer_header u d.at d.pair.active_number (pair_handed d.pair d.pair.active_number); entries = es }) })
-    (λ (z : Side). z.steps ≤ v.steps + 1) (λ e. omega arith) (λ e. omega arith)
-
 look_steps : (v : Side) (b w : ℕ) → (side_look_buffer v b w).steps ≡ v.steps + 1
-look_steps v b w =
-    cond_both (eqb b 0) (record v { steps = v.steps + 1; first = slot_looked v.first w }) (record v { steps = v.steps + 1; second = slot_looked v.second w })
-    (λ (z : Side). z.steps ≡ v.steps + 1) (λ e. refl) (λ e. refl)
+look_steps v b w = by_look (λ (z : Side). z.steps ≡ v.steps + 1) v b w refl refl
 
 hand_steps : (u : Setup) (d : Driver) (v : Side) (b : ℕ) (es : List Counted) → (hand_buffer u d v b es).side.steps ≤ v.steps + 1
-hand_steps u d v b es =
-    let x : Sent = record { note = buffer_header u d.at b (pair_handed d.pair b); entries = es } in
-    cond_both (eqb b 0) (record v { steps = v.steps + 1; first = slot_handed v.first x; room = room_after v.room x }) (record v { steps = v.steps + 1; second = slot_handed v.second x; room = room_after v.room x })
-    (λ (z : Side). z.steps ≤ v.steps + 1) (λ e. omega arith) (λ e. omega arith)
+hand_steps u d v b es = by_hand (λ (z : Side). z.steps ≤ v.steps + 1) v b (buffer_batch u d.at b (pair_handed d.pair b) es) (omega arith) (omega arith)
+
+hand_active_steps : (u : Setup) (d : Driver) (v : Side) (a : Option (List Counted)) → (hand_active u d v a).side.steps ≤ v.steps + 1
+hand_active_steps u d v None = omega arith
+hand_active_steps u d v (Some es) = hand_steps u d v d.pair.active_number es
 
 write_steps : (u : Setup) (y : World) (k : Key) (p : Pace) (a : Option (List Counted)) → Within y.side 1 (write u y k p a)
 write_steps u y k Free None = omega arith
