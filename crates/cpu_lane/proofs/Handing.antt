@@ -1,28 +1,24 @@
 -- A hand can be made: what it asks follows from what a turn knows.
 use Rattle.std.proofs.Common.{◌≡◌, ℕ, ◌+◌, ◌/◌, ◌^◌, ◌<◌, ◌≤◌, List, length, refl, sym, ◌∙◌, ap, subst, arith, true, Some, None, Option, eqb}
 use Rattle.std.specs.Prelude.{is_some, IfSome, IsSomeAnd}
-use Rattle.std.proofs.lemmas.Bool.{cond_both}
 use Rattle.sample_key.specs.Counted.{Counted}
 use Rattle.sample_key.specs.Marks.{due}
 use Rattle.sample_key.specs.Sent.{Sent}
 use Rattle.sample_key.specs.declared.keys.Marked.{Marked}
 use Rattle.driver_model.specs.Table.{Table, entries_in}
-use Rattle.driver_model.specs.Sides.{Room, Slot, Side, HasRoomFor, slot_of, slot_handed, room_after}
+use Rattle.driver_model.specs.Sides.{Room, Slot, Side, HasRoomFor, slot_of, room_after}
 use Rattle.driver_model.specs.Driver.{Setup, Driver, pair_handed, buffer_header, hand_active}
 use Rattle.driver_model.specs.Invariant.{IsSetup, table_entries, active_entries}
 use Rattle.driver_laws.proofs.Lists.{by_number}
+use Rattle.driver_laws.proofs.Looks.{by_hand}
 use Rattle.driver_laws.proofs.Marks.{due_most}
+use Rattle.driver_laws.proofs.Rooms.{less_room}
 use Rattle.overflow_pair.specs.Contents.{Contents, HasSpace, entries_if}
 use Rattle.overflow_pair.specs.Pairs.{buffers_of}
 use Rattle.overflow_pair.specs.declared.pairs.Pair.{Pair}
 use Rattle.lane_side.specs.Fixed.{Fixed}
 use Rattle.cpu_lane.specs.Steps.{Is}
 use Rattle.cpu_lane.specs.Ready.{IsSideOf, Ready, CanHand, CanHandTable}
-
--- less room is enough for less
-pub less_room : (a b m n : ℕ) (o : Option Room) → b ≤ a → n ≤ m → HasRoomFor a m o → HasRoomFor b n o
-less_room a b m n None l k h = tt
-less_room a b m n (Some r) l k h = (omega (arith, h.0), omega (arith, h.1))
 
 -- the active buffer's cell says that it is held
 held_slot : (v : Side) (n : ℕ) → n ≤ 1 → v.first.holds ≡ eqb n 0 → v.second.holds ≡ eqb n 1 → (slot_of v n).holds ≡ true
@@ -99,11 +95,9 @@ active_leaves u d v n (Some es) room =
     let x : Sent = record { note = buffer_header u d.at b (pair_handed d.pair b); entries = es } in
     let e : Driver = record d { pair = pair_handed d.pair b } in
     let left : HasRoomFor 1 n (room_after v.room x) = after_room (n + length es + 1) n x v.room (omega arith) room in
-    cond_both (eqb b 0) (record v { steps = v.steps + 1; first = slot_handed v.first x; room = room_after v.room x })
-    (record v { steps = v.steps + 1; second = slot_handed v.second x; room = room_after v.room x })
-    (λ (w : Side). Leaves d v n e w)
-    (λ z. record { tables = refl; at = refl; third = refl; heard = refl; buckets = refl; room = left })
-    (λ z. record { tables = refl; at = refl; third = refl; heard = refl; buckets = refl; room = left })
+    by_hand (Leaves d v n e) v b x
+    (record { tables = refl; at = refl; third = refl; heard = refl; buckets = refl; room = left })
+    (record { tables = refl; at = refl; third = refl; heard = refl; buckets = refl; room = left })
 
 -- then the table can be handed
 can_third : (u : Setup) (f : Fixed) (d : Driver) (v : Side) (w : ℕ) (t : Table) (e : Driver) (x : Side) → Ready u f d v → d.table ≡ Some t → w ≡ v.heard → w ≤ 2 ^ 32

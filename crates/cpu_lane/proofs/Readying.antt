@@ -14,11 +14,12 @@ use Rattle.driver_laws.proofs.Changes.{with_held, with_words}
 use Rattle.driver_laws.proofs.Lefts.{look_left}
 use Rattle.driver_laws.proofs.Looks.{look_ends}
 use Rattle.driver_laws.proofs.Marks.{due_later, due_next}
+use Rattle.driver_laws.proofs.Rooms.{less_room}
 use Rattle.overflow_pair.specs.Contents.{Contents, HasSpace, pushed, entries_if}
 use Rattle.lane_side.specs.Fixed.{Fixed}
 use Rattle.cpu_lane.specs.Steps.{Is, looked}
 use Rattle.cpu_lane.specs.Ready.{Ready, CanHand, CanCount, IsDue}
-use Rattle.cpu_lane.proofs.Handing.{less_room, can_hand}
+use Rattle.cpu_lane.proofs.Handing.{can_hand}
 
 -- A turn stays ready where only the words, the bell and who holds what change, if the entries stay and the holds are those of
 -- the driver.
