@@ -63,27 +63,17 @@ look_cell hs sent home posted gone h g (AtHome x) free i = (
   record { hands = i.hands; bound = i.bound; state = i.state.0 },
   record { holds = sym (even_word h g i.state.0); taken = refl; far = refl; told = omega (arith, i.hands); cause = (home_word h g i.state.0, i.state.1) },
 )
-look_cell hs sent home posted gone h g (Posted q) free i = (
-  i,
-  record {
-    holds = sym (odd_word h g i.state.0);
-    taken = refl;
-    far = refl;
-    told = omega (arith, i.hands);
-    cause = (refl, out_word h g i.state.0, omega (arith, i.state.0, i.hands));
-  },
-)
-look_cell hs sent home posted gone h g WithDaemon free i = (
-  i,
-  record {
-    holds = sym (odd_word h g i.state.0);
-    taken = refl;
-    far = refl;
-    told = omega (arith, i.hands);
-    cause = (refl, out_word h g i.state.0, omega (arith, i.state.0, i.hands));
-  },
-)
 look_cell hs sent home posted gone h g WithDriver free i = cc
+look_cell hs sent home posted gone h g s free i = (
+  i,
+  record {
+    holds = sym (odd_word h g i.state.0);
+    taken = refl;
+    far = refl;
+    told = omega (arith, i.hands);
+    cause = (refl, out_word h g i.state.0, omega (arith, i.state.0, i.hands));
+  },
+)
 
 -- what a poll finds at a cell
 pub record PollFinds {B : Type 0} (hs : List Sent) (sent : Parcel B → Sent) (posted : Parcel B → Type 0) (h g : ℕ) (s : Holder B) : Type 0 where
