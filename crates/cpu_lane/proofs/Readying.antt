@@ -136,6 +136,13 @@ can_count u f d v k r n =
     let left : d.at < length u.samples = next_below d.at u.samples n.0 n.1 n.2 in
     (record { at = omega (arith, left, r.setup_is.few); all = r.all }, left)
 
+-- the same after what was found
+pub found_counts : (u : Setup) (f g : Fixed) (h : Two) (d : Driver) (v : Side) (e : Driver) (w : Side) (k : Key) → Ready u f d v → d.pair.active ≡ None → Is (look_both h d v d.pair.next) e w → g ≡ f
+    → IsDue u d v k → CanCount e × (e.at < length u.samples)
+found_counts u f g h d v e w k r none is same due_now =
+    let s = found_stays h d v e w is in
+    can_count u g e w k (found_ready u f g h d v e w r none is same) (still_due u d e v w k s.0 s.2 due_now)
+
 -- a sample more was taken
 taken : (d : Driver) (k : Key) (o : Option Table) → ((take_next d k o).at ≡ d.at + 1) × ((take_next d k o).pair ≡ d.pair)
 taken d k None = (refl, refl)

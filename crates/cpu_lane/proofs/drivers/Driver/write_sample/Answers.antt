@@ -5,7 +5,7 @@ use Rattle.overflow_pair.specs.Contents.{Contents, empty_buffer, entries_if}
 use Rattle.cpu_lane.specs.Seen.{setup_of, driver_of}
 use Rattle.cpu_lane.specs.Steps.{Is, Gives}
 use Rattle.cpu_lane.proofs.Told.{over_map}
-use Rattle.cpu_lane.proofs.Readying.{found_ready, found_stays, still_due, can_count}
+use Rattle.cpu_lane.proofs.Readying.{found_ready, found_stays, still_due, found_counts}
 use Rattle.cpu_lane.proofs.Sampling.{write_at, write_held}
 use Rattle.cpu_lane.proofs.drivers.Driver.write_sample.Goals as goal
 
@@ -41,22 +41,14 @@ returns-in-Active-clause-step g c =
 pub go_without-requires-clause-count : goal.go_without-requires-clause-count
 go_without-requires-clause-count g c =
     let found = c.look_both.ensures.step.read in
-    let u = setup_of c.args.setup.now in let d = driver_of c.args.self.now in let v = g.S.Endpoint.seen c.args.side.now in
-    let e = driver_of c.look_both.new.self in let w = g.S.Endpoint.seen c.look_both.new.side in
-    let s = found_stays found.0 d v e w found.1 in
-    (can_count u (g.S.Endpoint.fixed c.look_both.new.side) e w c.args.key.now
-    (found_ready u (g.S.Endpoint.fixed c.args.side.now) (g.S.Endpoint.fixed c.look_both.new.side) found.0 d v e w c.requires.ready (ap (λ (b : Option Contents). entries_if b) c.requires.gone) found.1 c.look_both.ensures.fixed)
-    (still_due u d e v w c.args.key.now s.0 s.2 c.requires.due)).0
+    (found_counts (setup_of c.args.setup.now) (g.S.Endpoint.fixed c.args.side.now) (g.S.Endpoint.fixed c.look_both.new.side) found.0 (driver_of c.args.self.now) (g.S.Endpoint.seen c.args.side.now)
+    (driver_of c.look_both.new.self) (g.S.Endpoint.seen c.look_both.new.side) c.args.key.now c.requires.ready (ap (λ (b : Option Contents). entries_if b) c.requires.gone) found.1 c.look_both.ensures.fixed c.requires.due).0
 
 pub go_without-requires-clause-left : goal.go_without-requires-clause-left
 go_without-requires-clause-left g c =
     let found = c.look_both.ensures.step.read in
-    let u = setup_of c.args.setup.now in let d = driver_of c.args.self.now in let v = g.S.Endpoint.seen c.args.side.now in
-    let e = driver_of c.look_both.new.self in let w = g.S.Endpoint.seen c.look_both.new.side in
-    let s = found_stays found.0 d v e w found.1 in
-    (can_count u (g.S.Endpoint.fixed c.look_both.new.side) e w c.args.key.now
-    (found_ready u (g.S.Endpoint.fixed c.args.side.now) (g.S.Endpoint.fixed c.look_both.new.side) found.0 d v e w c.requires.ready (ap (λ (b : Option Contents). entries_if b) c.requires.gone) found.1 c.look_both.ensures.fixed)
-    (still_due u d e v w c.args.key.now s.0 s.2 c.requires.due)).1
+    (found_counts (setup_of c.args.setup.now) (g.S.Endpoint.fixed c.args.side.now) (g.S.Endpoint.fixed c.look_both.new.side) found.0 (driver_of c.args.self.now) (g.S.Endpoint.seen c.args.side.now)
+    (driver_of c.look_both.new.self) (g.S.Endpoint.seen c.look_both.new.side) c.args.key.now c.requires.ready (ap (λ (b : Option Contents). entries_if b) c.requires.gone) found.1 c.look_both.ensures.fixed c.requires.due).1
 
 pub returns-in-Out-clause-step : goal.returns-in-Out-clause-step
 returns-in-Out-clause-step g c =
