@@ -1,5 +1,5 @@
 -- What a turn did to the three cells, along the definition of the turn.
-use Rattle.std.proofs.Common.{◌≡◌, ℕ, zero, suc, ◌/◌, ◌%◌, ◌<◌, ◌≤◌, List, [], ◌∷◌, ◌++◌, length, drop, refl, ◌∙◌, ap, arith, inl, inr, Bool, true, Some, None, Option, leb, ltb, eqb, ◌&&◌, ltb-true, eqb-true, eq-eqb}
+use Rattle.std.proofs.Common.{◌≡◌, ℕ, zero, suc, ◌/◌, ◌%◌, ◌<◌, ◌≤◌, List, [], ◌∷◌, ◌++◌, length, drop, refl, ◌∙◌, ap, arith, inl, inr, Bool, true, false, Some, None, Option, leb, ltb, eqb, ◌&&◌, ltb-true, eqb-true, eq-eqb}
 use Rattle.std.specs.Prelude.{is_some}
 use Rattle.std.proofs.lemmas.Bool.{cond_both, and_parts}
 use Rattle.sample_key.specs.Counted.{Counted}
@@ -13,7 +13,7 @@ use Rattle.driver_model.specs.Sides.{Side, is_even, side_hear, side_look_table, 
 use Rattle.driver_model.specs.Driver.{Setup, Driver, World, Two, Words, Buffers, ends_with, regain, pair_handed, buffer_batch, table_batch, hand_buffer, hand_active, hand_table, answer_with, answers_now, may_answer, take_next, entry_to_write, needs_write, activate, other, word_at, look_other, find_buffer, push, lose, write, write_sample, take_sample, next_sample, after_regain, turn_of}
 use Rattle.driver_model.specs.Invariant.{is_active}
 use Rattle.driver_model.specs.declared.answers.Turn.TheVariants.{Took, Held, Done}
-use Rattle.driver_laws.specs.Doings.{Taken, HandedNone, CellDid, AnswersNothing, CellsDid, DidBy, IsTakenWhereHeld, IsTakenWhereEven, HasNumbers}
+use Rattle.driver_laws.specs.Doings.{Taken, HandedNone, HandedOne, AnswersBell, CellDid, AnswersNothing, CellsDid, DidBy, IsTakenWhereHeld, IsTakenWhereEven, HasNumbers}
 
 -- Nothing was handed so far: three cells that were left alone, the answer and the numbers.
 record Near (taken : Taken) (answered : ℕ) (v0 : Side) (d : Driver) (v : Side) : Type 0 where
@@ -35,6 +35,19 @@ record Half (cpu : ℕ) (taken : Taken) (answered : ℕ) (v0 : Side) (d : Driver
 active_is : (p : Buffers) (b : ℕ) → is_some p.active ≡ true → p.active_number ≡ b → is_active p b ≡ true
 active_is p b some number = ap (λ (z : Bool). z && eqb p.active_number b) some ∙ eq-eqb p.active_number b number
 
+-- one batch more was handed of a cell that was left alone so far
+one_handed : (cpu cell : ℕ) (P : Sent → Type 0) (taken before after : List Sent) (held : Bool) (x : Sent) → HandedNone taken before after held → held ≡ true
+    → x.note.cpu ≡ cpu → x.note.cell ≡ cell → P x → HandedOne cpu cell P taken before (after ++ x ∷ []) false
+one_handed cpu cell P taken before after held x n holds cpu_is cell_is fact = record {
+  batch = x;
+  more = ap (λ (z : List Sent). z ++ x ∷ []) n.same;
+  home = n.home holds;
+  out = refl;
+  cpu_is = cpu_is;
+  cell_is = cell_is;
+  fact = fact;
+}
+
 module _ (u : Setup) (bell answered : ℕ) (taken : Taken) (v0 : Side) where
   half_of : (d : Driver) (v : Side) → Near taken answered v0 d v → Half u.cpu taken answered v0 d v
   half_of d v n = record { first = inl n.first; second = inl n.second; third = n.third; answer = n.answer }
@@ -49,34 +62,16 @@ module _ (u : Setup) (bell answered : ℕ) (taken : Taken) (v0 : Side) where
   half_hand : (d : Driver) (v : Side) (b : ℕ) (es : List Counted) → b ≤ 1 → is_some d.pair.active ≡ true → d.pair.active_number ≡ b → Near taken answered v0 d v
       → Half u.cpu taken answered v0 (hand_buffer u d v b es).driver (hand_buffer u d v b es).side
   half_hand d v zero es l some number n =
-      let x : Sent = buffer_batch u d.at 0 (pair_handed d.pair 0) es in
       record {
-        first = inr (record {
-          batch = x;
-          more = ap (λ (z : List Sent). z ++ x ∷ []) n.first.same;
-          home = n.first.home (active_is d.pair 0 some number);
-          out = refl;
-          cpu_is = refl;
-          cell_is = refl;
-          fact = refl;
-        });
+        first = inr (one_handed u.cpu 0 AnswersNothing taken.first v0.first.handed v.first.handed (is_active d.pair 0) (buffer_batch u d.at 0 (pair_handed d.pair 0) es) n.first (active_is d.pair 0 some number) refl refl refl);
         second = inl (record { same = n.second.same; home = λ e. cc });
         third = n.third;
         answer = n.answer;
       }
   half_hand d v (suc zero) es l some number n =
-      let x : Sent = buffer_batch u d.at 1 (pair_handed d.pair 1) es in
       record {
         first = inl (record { same = n.first.same; home = λ e. cc });
-        second = inr (record {
-          batch = x;
-          more = ap (λ (z : List Sent). z ++ x ∷ []) n.second.same;
-          home = n.second.home (active_is d.pair 1 some number);
-          out = refl;
-          cpu_is = refl;
-          cell_is = refl;
-          fact = refl;
-        });
+        second = inr (one_handed u.cpu 1 AnswersNothing taken.second v0.second.handed v.second.handed (is_active d.pair 1) (buffer_batch u d.at 1 (pair_handed d.pair 1) es) n.second (active_is d.pair 1 some number) refl refl refl);
         third = n.third;
         answer = n.answer;
       }
@@ -91,19 +86,10 @@ module _ (u : Setup) (bell answered : ℕ) (taken : Taken) (v0 : Side) where
   did_table : (d : Driver) (v : Side) (t : Table) → is_some d.table ≡ true → bell % 2 ≡ 1 → answered < bell → Half u.cpu taken answered v0 d v
       → CellsDid u.cpu bell answered taken v0 (hand_table u d v bell t).driver (hand_table u d v bell t).side
   did_table d v t some odd above n =
-      let x : Sent = table_batch u d bell t in
       record {
         first = n.first;
         second = n.second;
-        third = inr (record {
-          batch = x;
-          more = ap (λ (z : List Sent). z ++ x ∷ []) n.third.same;
-          home = n.third.home some;
-          out = refl;
-          cpu_is = refl;
-          cell_is = refl;
-          fact = (refl, odd, above);
-        });
+        third = inr (one_handed u.cpu 2 (AnswersBell bell answered) taken.third v0.third.handed v.third.handed (is_some d.table) (table_batch u d bell t) n.third some refl refl (refl, odd, above));
       }
 
   -- handing the active buffer leaves the table
