@@ -1,11 +1,10 @@
+-- Hands and looks of a buffer, by its number, and the two looks of a turn.
 use Rattle.std.proofs.Common.{◌≡◌, ℕ, ◌≤◌, true, false, eqb}
 use Rattle.std.proofs.lemmas.Bool.{cond_both}
 use Rattle.sample_key.specs.Sent.{Sent}
 use Rattle.driver_model.specs.Sides.{Side, is_even, side_hand_buffer, side_look_buffer}
 use Rattle.driver_model.specs.Driver.{Two, look_other, look_both, Driver, World, activate}
 use Rattle.driver_laws.proofs.Lists.{by_number}
-
--- hands and looks of a buffer, by its number, and the two looks of a turn
 
 -- what holds whichever buffer was handed
 pub by_hand : (P : Side → Type 0) (v : Side) (b : ℕ) (x : Sent) → P (side_hand_buffer v 0 x) → P (side_hand_buffer v 1 x) → P (side_hand_buffer v b x)
@@ -15,7 +14,7 @@ by_hand P v b x first second = cond_both (eqb b 0) (side_hand_buffer v 0 x) (sid
 pub by_look : (P : Side → Type 0) (v : Side) (b w : ℕ) → P (side_look_buffer v 0 w) → P (side_look_buffer v 1 w) → P (side_look_buffer v b w)
 by_look P v b w first second = cond_both (eqb b 0) (side_look_buffer v 0 w) (side_look_buffer v 1 w) P (λ e. first) (λ e. second)
 
--- What holds of each of their five ends holds after them: a buffer is back at once, or after the other one was out, or both
+-- What holds at each of the five ends of both looks holds after them: a buffer is back at once, or after the other one was out, or both
 -- are out, in either order.
 pub look_ends : (P : World → Type 0) (h : Two) (d : Driver) (v : Side) (b : ℕ) → b ≤ 1
     → (is_even h.first ≡ true → P (record { driver = activate d 0; side = side_look_buffer v 0 h.first }))
