@@ -1,6 +1,8 @@
-//! Tests of the lowest crates, as tables: numbers and names in text, streams, samples and their batches.
+//! Tests of the lowest crates, as tables: numbers, names and fields in text, streams, samples and their batches.
 #![tactic(auto)]
 
+#[cfg(test)]
+mod fields;
 #[cfg(test)]
 mod names;
 #[cfg(test)]

@@ -14,7 +14,8 @@ use Rattle.std.proofs.lemmas.List.Sums.{prefix_len-le-length}
 use Rattle.image_catalog.specs.Images.{place_of, text_at, comes_before, Rises, IsCatalog, AreImages}
 use Rattle.image_catalog.specs.declared.catalog.TheConstants.{MOST_IMAGES}
 use Rattle.image_catalog.proofs.Places.{one_more, no_images, lt_true, lt_false}
-use Rattle.image_catalog.proofs.Halving.{by_bytes, is_of, above, apart_below, apart_above, less_from, front_all, back_all}
+use Rattle.text_num.proofs.Lists.{front_all, back_all}
+use Rattle.image_catalog.proofs.Halving.{by_bytes, is_of, above, apart_below, apart_above, less_from}
 
 -- no names
 pub none_held : (names : List (List ℕ)) (order : List ℕ) → names ≡ [] → order ≡ [] → IsCatalog names order

@@ -1,5 +1,5 @@
 -- What stands in an index before and behind a name, and what one number more changes.
-use Rattle.std.proofs.Common.{rules, arith, ◌≡◌, ℕ, zero, suc, ◌+◌, ◌<◌, ◌≤◌, Bool, true, false, cond, eqb, List, [], ◌∷◌, ◌++◌, None, Some, Option, length, take, drop, get_or, refl, sym, ap, ◌∙◌, subst, inl, inr, length-append, take-append-drop, drop-cons, add-one, lit≤}
+use Rattle.std.proofs.Common.{rules, arith, ◌≡◌, ℕ, zero, suc, ◌+◌, ◌<◌, ◌≤◌, Bool, true, false, cond, eqb, List, [], ◌∷◌, ◌++◌, None, Some, Option, length, take, drop, get_or, refl, sym, ap, ◌∙◌, subst, inl, inr, length-append, take-append-drop, lit≤}
 use Rattle.std.specs.Prelude.{find, nat_lt, position}
 use Rattle.std.specs.declared.cmp.Ordering.{Ordering}
 use Rattle.std.specs.declared.cmp.Ordering.TheVariants.{Less, Equal, Greater}
@@ -16,6 +16,7 @@ use Rattle.std.proofs.Math.Seq.{get_or-append_seam}
 use Rattle.std.proofs.lemmas.Bool.{cases_lt}
 use Rattle.std.proofs.lemmas.List.Folds.{position_or_len_push}
 use Rattle.std.proofs.lemmas.List.Sums.{prefix_len-le-length}
+use Rattle.text_num.proofs.Lists.{front_all, rest_at}
 use Rattle.image_catalog.specs.Images.{place_of, text_at, comes_before, Rises, IsCatalog, AreImages}
 use Rattle.image_catalog.proofs.Places.{one_more, no_images, lt_true, lt_false}
 
@@ -47,19 +48,6 @@ above_at Greater a b is lt other = nat_list_cmp_total.antisymm b a ∙ ap orderi
 -- what is neither below nor equal is above
 pub above : (a b : List ℕ) → is_lt (by_bytes a b) ≡ false → bytes_eq a b ≡ false → by_bytes b a ≡ Less
 above a b lt other = above_at (by_bytes a b) a b refl lt other
-
--- ---- numbers before a place, and from it on
-
-pub front_all : (P : ℕ → Type 0) (i : ℕ) (xs : List ℕ) → i ≤ length xs → AllWithin P xs 0 i → AllByRecursion P (take i xs)
-front_all P zero xs within all = tt
-front_all P (suc i) [] within all = tt
-front_all P (suc i) (x ∷ xs) within all = (all 0 x (omega arith) (omega arith), front_all P i xs (omega arith) (λ k d low high. all (suc k) d (omega arith) (omega arith)))
-
-pub back_all : (P : ℕ → Type 0) (i : ℕ) (xs : List ℕ) → AllWithin P xs i (length xs) → AllByRecursion P (drop i xs)
-back_all P zero [] all = tt
-back_all P zero (x ∷ xs) all = (all 0 x (omega arith) (omega arith), back_all P zero xs (λ k d low high. all (suc k) d (omega arith) (omega arith)))
-back_all P (suc i) [] all = tt
-back_all P (suc i) (x ∷ xs) all = back_all P i xs (λ k d low high. all (suc k) d (omega arith) (omega arith))
 
 rises_drop : (names : List (List ℕ)) (i : ℕ) (xs : List ℕ) → Rises names xs → Rises names (drop i xs)
 unfolding IsStrictlySortedBy
@@ -103,9 +91,6 @@ all_above names name k (x ∷ xs) below all = (nat_list_cmp_total.trans name (te
 pub sought : (names : List (List ℕ)) (name : List ℕ) (order : List ℕ) (at : ℕ) → at ≤ length order → AllWithin (λ k. comes_before names k name ≡ true) order 0 at → find (is_of names name) order ≡ find (is_of names name) (drop at order)
 sought names name order at within before =
     ap (find (is_of names name)) (sym (take-append-drop at order)) ∙ passed names name (take at order) (drop at order) (front_all (λ k. comes_before names k name ≡ true) at order within before)
-
-rest_at : (order : List ℕ) (i : ℕ) → i < length order → drop i order ≡ get_or order i 0 ∷ drop (i + 1) order
-rest_at order i within = rw add-one (drop-cons order i 0 within)
 
 pub found : (names : List (List ℕ)) (name : List ℕ) (order : List ℕ) (at : ℕ) → at < length order → AllWithin (λ j. comes_before names j name ≡ true) order 0 at → is_of names name (get_or order at 0) ≡ true → Some (get_or order at 0) ≡ find (is_of names name) order
 found names name order at within before holds =

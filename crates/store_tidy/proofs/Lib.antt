@@ -1,4 +1,3 @@
-pub mod Cutting
 pub mod Gone
 pub mod Keeping
 pub mod Sets

@@ -1,5 +1,4 @@
 pub mod Faults
-pub mod Fields
 pub mod FileForms
 pub mod Named
 pub mod Removals

@@ -1,11 +1,10 @@
 //! The forms of the names of a database's files.
-ghost use Rattle.std.specs.Prelude.{◌≡◌, ◌∷◌};
-ghost use Rattle.store_tidy.specs.FileForms.{cut_at_dots, is_decimal_in, are_decimals_in, is_file_name};
-ghost use Rattle.store_tidy.specs.Fields.{fields_behind};
+ghost use Rattle.std.specs.Prelude.{◌≡◌};
+ghost use Rattle.store_tidy.specs.FileForms.{is_decimal_in, are_decimals_in, is_file_name};
+ghost use Rattle.text_num.specs.Fields.{fields_behind};
 
 use database_state::LAST_GENERATION;
-use memchr::memchr;
-use text_num::read_dec;
+use text_num::{cut_field, read_dec};
 
 /// The numbers from `low` to `high`.
 #[derive(Clone, Copy)]
@@ -42,7 +41,7 @@ pub const GENERATION: Range = Range {
 pub fn is_file_name(name: &[u8]) -> bool
     ensures { result ≡ is_file_name name.now }
 {
-    let (word, numbers) = cut(name);
+    let (word, numbers) = cut_field(name, b'.');
     if word == b"p".as_slice() {
         return are_decimals_in(&[EPOCH, IMAGE, EVENT, GENERATION], numbers);
     }
@@ -57,14 +56,14 @@ pub fn is_file_name(name: &[u8]) -> bool
 
 /// Whether the fields of a text, if there is one, are canonical decimals, one in each of the ranges.
 fn are_decimals_in(ranges: &[Range], text: Option<&[u8]>) -> bool
-    ensures { result ≡ are_decimals_in ranges.now (fields_behind text.entry) }
+    ensures { result ≡ are_decimals_in ranges.now (fields_behind 46 text.entry) }
 {
     let mut rest = text;
     for range in ranges {
         let Some(fields) = rest else {
             return false;
         };
-        let (field, behind) = cut(fields);
+        let (field, behind) = cut_field(fields, b'.');
         if !is_decimal_in(*range, field) {
             return false;
         }
@@ -79,15 +78,5 @@ fn is_decimal_in(range: Range, text: &[u8]) -> bool
     match read_dec(text) {
         Some(n) => range.low <= n && n <= range.high,
         None => false,
-    }
-}
-
-/// The first field of a text, and the text behind the dot that ends it.
-fn cut(text: &[u8]) -> (&[u8], Option<&[u8]>)
-    ensures { cut_at_dots text.now ≡ result.0.now ∷ fields_behind result.1 }
-{
-    match memchr(b'.', text) {
-        Some(at) => (&text[..at], Some(&text[at + 1..])),
-        None => (text, None),
     }
 }

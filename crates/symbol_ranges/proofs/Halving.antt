@@ -1,28 +1,16 @@
 -- What halving finds among symbols in order.
-use Rattle.std.proofs.Common.{◌≡◌, ℕ, zero, suc, ◌+◌, ◌-◌, ◌<◌, ◌≤◌, Bool, true, false, cond, ◌||◌, List, [], ◌∷◌, ◌++◌, None, Some, Option, length, map, take, drop, get_or, refl, sym, ap, ◌∙◌, subst, arith, take-append-drop, drop-cons, add-one}
+use Rattle.std.proofs.Common.{◌≡◌, ℕ, zero, suc, ◌+◌, ◌-◌, ◌<◌, ◌≤◌, Bool, true, false, cond, ◌||◌, List, [], ◌∷◌, ◌++◌, None, Some, Option, length, map, take, drop, get_or, refl, sym, ap, ◌∙◌, subst, arith, take-append-drop}
 use Rattle.std.specs.Prelude.{find}
-use Rattle.std.specs.List.{AllByRecursion, AllWithin, list_any}
+use Rattle.std.specs.List.{AllByRecursion, list_any}
 use Rattle.std.specs.List.Sorted.{IsPartitionedBy}
 use Rattle.std.specs.Option.{is_some}
 use Rattle.std.proofs.lemmas.List.{map-append, get_or_default}
+use Rattle.text_num.proofs.Lists.{rest_at}
 use Rattle.symbol_ranges.specs.declared.symbols.Symbol.{Symbol}
 use Rattle.symbol_ranges.specs.Lines.{meets, covers}
 use Rattle.symbol_ranges.specs.Index.{is_before, symbol_at, shown, blank, Rises, AreWithin, IsIndexed}
 use Rattle.symbol_ranges.specs.Reads.{Meeting}
 use Rattle.symbol_ranges.proofs.Order.{before_trans, early_meets_none, later_meets_none}
-
--- ---- places before one, and from it on
-
-pub front_all : (P : ℕ → Type 0) (i : ℕ) (xs : List ℕ) → i ≤ length xs → AllWithin P xs 0 i → AllByRecursion P (take i xs)
-front_all P zero xs within all = tt
-front_all P (suc i) [] within all = tt
-front_all P (suc i) (x ∷ xs) within all = (all 0 x (omega arith) (omega arith), front_all P i xs (omega arith) (λ k d low high. all (suc k) d (omega arith) (omega arith)))
-
-pub back_all : (P : ℕ → Type 0) (i : ℕ) (xs : List ℕ) → AllWithin P xs i (length xs) → AllByRecursion P (drop i xs)
-back_all P zero [] all = tt
-back_all P zero (x ∷ xs) all = (all 0 x (omega arith) (omega arith), back_all P zero xs (λ k d low high. all (suc k) d (omega arith) (omega arith)))
-back_all P (suc i) [] all = tt
-back_all P (suc i) (x ∷ xs) all = back_all P i xs (λ k d low high. all (suc k) d (omega arith) (omega arith))
 
 pub at_of : (P : Symbol → Type 0) (lines : List Symbol) (xs : List ℕ) (j d : ℕ) → AllByRecursion P (shown lines xs) → j < length xs → P (symbol_at lines (get_or xs j d))
 at_of P lines [] j d all within = absurd (omega arith)
@@ -71,9 +59,6 @@ rises_drop : (lines : List Symbol) (i : ℕ) (xs : List ℕ) → Rises (shown li
 rises_drop lines zero xs rising = rising
 rises_drop lines (suc i) [] rising = tt
 rises_drop lines (suc i) (x ∷ xs) rising = rises_drop lines i xs rising.2
-
-rest_at : (order : List ℕ) (i : ℕ) → i < length order → drop i order ≡ get_or order i 0 ∷ drop (i + 1) order
-rest_at order i within = rw add-one (drop-cons order i 0 within)
 
 none_left : (i : ℕ) (xs : List ℕ) → length xs ≤ i → drop i xs ≡ []
 none_left zero [] past = refl

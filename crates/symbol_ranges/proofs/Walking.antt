@@ -1,13 +1,15 @@
 -- Lines of a symbol list, read one after another.
 use Rattle.std.proofs.Common.{◌≡◌, ◌≢◌, ℕ, suc, ◌+◌, ◌≤◌, true, false, List, [], ◌∷◌, ◌++◌, length, refl, ap, sym, subst, ◌∙◌, arith, Option, Some, None, Result, Ok, Err, append_assoc}
-use Rattle.std.specs.List.{AllByRecursion}
 use Rattle.std.specs.Option.{IfSome}
 use Rattle.std.specs.Io.KnownBytes.{Consumes, IsAtEnd, prepend_known}
 use Rattle.std.proofs.KnownBytes.{Consumes-trans, Consumes-nil, prepend_known-nil}
 use Rattle.std.proofs.lemmas.List.{length-append, append-nil}
 use Rattle.text_num.specs.Lines.{text_of_lines}
+use Rattle.text_num.proofs.Lines.{lines_append}
+use Rattle.text_num.proofs.Lists.{all_append}
 use Rattle.line_reader.specs.declared.faults.Ending.TheVariants as endings
 use Rattle.line_reader.specs.Reading.{ReadsLine}
+use Rattle.line_reader.proofs.Fronts.{taken_front}
 use Rattle.symbol_ranges.specs.declared.symbols.Symbol.{Symbol}
 use Rattle.symbol_ranges.specs.declared.symbols.TheConstants.{MOST_LINE_BYTES}
 use Rattle.symbol_ranges.specs.declared.refusals.SymbolWhy.{SymbolWhy}
@@ -19,14 +21,6 @@ use Rattle.symbol_ranges.specs.declared.refusals.SymbolRefusal.TheVariants.{Bad,
 use Rattle.symbol_ranges.specs.Lines.{verdict, said_by, where_said, IsLine, Reads, Refuses, Finished, Stopped, Overlong, FirstBad}
 use Rattle.symbol_ranges.specs.Reads.{Adds, IsRefusal}
 use Rattle.symbol_ranges.specs.Reading.{IfBad, IsFirstBad, IsOfLineError, Steps, Stops, Went}
-
-lines_append : (xs ys : List (List ℕ)) → text_of_lines (xs ++ ys) ≡ text_of_lines xs ++ text_of_lines ys
-lines_append [] ys = refl
-lines_append (x ∷ xs) ys = ap (λ l. x ++ 10 ∷ l) (lines_append xs ys) ∙ sym (append_assoc x (10 ∷ text_of_lines xs) (text_of_lines ys))
-
-are_append : (xs ys : List (List ℕ)) → AllByRecursion IsLine xs → AllByRecursion IsLine ys → AllByRecursion IsLine (xs ++ ys)
-are_append [] ys h k = k
-are_append (x ∷ xs) ys h k = (h.0, are_append xs ys h.1 k)
 
 some_none : {A : Type 0} (x : A) → None ≡ Some x → ⊥
 some_none x e = cc
@@ -74,16 +68,11 @@ stepped old new line given before after e r a =
 pub went_on : (a b c : Option (List ℕ)) (x y z : List Symbol) → Went a b x y → Went b c y z → Went a c x z
 went_on a b c x y z v w = record {
   lines = v.lines ++ w.lines;
-  are_lines = are_append v.lines w.lines v.are_lines w.are_lines;
+  are_lines = all_append IsLine v.lines w.lines v.are_lines w.are_lines;
   taken = subst (λ l. Consumes a c l) (sym (lines_append v.lines w.lines)) (Consumes-trans a b c (text_of_lines v.lines) (text_of_lines w.lines) v.taken w.taken);
   says = said_append x y v.lines w.lines v.says ∙ w.says;
   count_is = omega (arith, length-append v.lines w.lines, v.count_is, w.count_is);
 }
-
--- bytes that begin with what was taken
-taken_front : (bytes taken : List ℕ) (new : Option (List ℕ)) → Consumes (Some bytes) new taken → (rest : List ℕ) × (new ≡ Some rest) × (bytes ≡ taken ++ rest)
-taken_front bytes taken None c = absurd c
-taken_front bytes taken (Some rest) c = (rest, refl, c)
 
 at_end : (new : Option (List ℕ)) (rest : List ℕ) → new ≡ Some rest → IsAtEnd new → rest ≡ []
 at_end new rest e h = subst IsAtEnd e h
@@ -144,14 +133,3 @@ reads_all (Some bytes) mid new symbols now w s = record {
   text = whole_text bytes (text_of_lines w.lines ++ []) new (Consumes-trans (Some bytes) mid new (text_of_lines w.lines) [] w.taken s.1) s.2 ∙ append-nil (text_of_lines w.lines);
   says = w.says ∙ ap (λ (l : List Symbol). Some l) (sym s.0);
 }
-
-nothing_behind : (front rest : List ℕ) → front ++ rest ≡ [] → rest ≡ []
-nothing_behind [] rest h = h
-nothing_behind (x ∷ front) rest h = absurd (no_cons x (front ++ rest) h)
-  where
-    no_cons : (x : ℕ) (xs : List ℕ) → x ∷ xs ≡ [] → ⊥
-    no_cons x xs e = cc
-
-pub nothing_left : (left : Option (List ℕ)) (front : List ℕ) → IsAtEnd (prepend_known front left) → IsAtEnd left
-nothing_left None front h = tt
-nothing_left (Some rest) front h = nothing_behind front rest h

@@ -4,7 +4,6 @@ use Rattle.std.specs.declared.option.Option.{Option}
 use Rattle.std.specs.declared.option.Option.TheVariants.{Some, None}
 use Rattle.std.specs.declared.result.Result.{Result}
 use Rattle.std.specs.declared.result.Result.TheVariants.{Ok, Err}
-use Rattle.std.specs.Borrow.{Bor}
 use Rattle.std.specs.List.{list_any}
 use Rattle.std.specs.Option.{is_some}
 use Rattle.text_num.specs.Numbers.{value_of}
@@ -15,12 +14,7 @@ use Rattle.symbol_ranges.specs.declared.fields.Range.{Range}
 use Rattle.symbol_ranges.specs.declared.refusals.SymbolWhy.{SymbolWhy}
 use Rattle.symbol_ranges.specs.declared.refusals.SymbolLineError.{SymbolLineError}
 use Rattle.symbol_ranges.specs.declared.refusals.SymbolLineError.TheVariants.{Bad, Memory}
-use Rattle.symbol_ranges.specs.Lines.{Texts, are_spelled, are_titled, covers, cut_at_spaces, end_of, is_out_of_range, meets, overlaps, start_of, verdict, verdict_on}
-
--- the fields behind the first
-abbrev pub fields_behind : Option (Bor (List ℕ)) → List (List ℕ)
-fields_behind None = []
-fields_behind (Some text) = cut_at_spaces text.now
+use Rattle.symbol_ranges.specs.Lines.{Texts, are_spelled, are_titled, covers, end_of, is_out_of_range, meets, overlaps, start_of, verdict, verdict_on}
 
 -- the texts of the fields
 abbrev pub texts_of : Fields → Texts

@@ -4,11 +4,10 @@ ghost use Rattle.std.specs.Prelude.{◌≡◌, ◌<◌, ◌+◌, ◌&&◌, ◌�
 ghost use Rattle.std.specs.Option.{option_map};
 ghost use Rattle.text_num.specs.Names.{is_name};
 ghost use Rattle.symbol_ranges.specs.Lines.{are_spelled, are_titled, are_aligned, cut_at_spaces, four_of};
-ghost use Rattle.symbol_ranges.specs.Reads.{fields_behind, texts_of, ReadsRange};
+ghost use Rattle.symbol_ranges.specs.Reads.{texts_of, ReadsRange};
 
 use crate::refusals::SymbolWhy;
-use memchr::memchr;
-use text_num::{is_hex, is_name, read_hex};
+use text_num::{cut_field, is_hex, is_name, read_hex};
 
 /// The greatest end of a range.
 pub const GREATEST_END: u64 = u64::MAX - 3;
@@ -33,19 +32,19 @@ pub struct Range {
 pub fn fields_of(line: &[u8]) -> Option<Fields<'_>>
     ensures { option_map texts_of result ≡ four_of (cut_at_spaces line.now) }
 {
-    let (image, after_image) = cut(line);
+    let (image, after_image) = cut_field(line, b' ');
     let Some(behind_image) = after_image else {
         return None;
     };
-    let (start, after_start) = cut(behind_image);
+    let (start, after_start) = cut_field(behind_image, b' ');
     let Some(behind_start) = after_start else {
         return None;
     };
-    let (length, after_length) = cut(behind_start);
+    let (length, after_length) = cut_field(behind_start, b' ');
     let Some(behind_length) = after_length else {
         return None;
     };
-    let (name, after_name) = cut(behind_length);
+    let (name, after_name) = cut_field(behind_length, b' ');
     match after_name {
         None => Some(Fields {
             image,
@@ -54,16 +53,6 @@ pub fn fields_of(line: &[u8]) -> Option<Fields<'_>>
             name,
         }),
         Some(_) => None,
-    }
-}
-
-// The first field of a text, and the text behind the space that ends it.
-fn cut(text: &[u8]) -> (&[u8], Option<&[u8]>)
-    ensures { cut_at_spaces text.now ≡ result.0.now ∷ fields_behind result.1 }
-{
-    match memchr(b' ', text) {
-        Some(at) => (&text[..at], Some(&text[at + 1..])),
-        None => (text, None),
     }
 }
 

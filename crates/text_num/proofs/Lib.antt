@@ -1,3 +1,6 @@
+pub mod Cutting
 pub mod Digits
+pub mod Lines
+pub mod Lists
 pub mod Spelling
 mod Writing

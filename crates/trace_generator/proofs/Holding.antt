@@ -1,16 +1,14 @@
 -- What holds of the lines of a made trace so far, and after one line more.
-use Rattle.std.proofs.Common.{◌≡◌, ℕ, zero, suc, ◌+◌, ◌*◌, ◌/◌, ◌%◌, ◌<◌, ◌≤◌, Bool, true, false, cond, List, [], ◌∷◌, ◌++◌, eqb, map, refl, ap, sym, subst, ◌∙◌, arith, Option, None, if◌then◌else◌, append_assoc}
-use Rattle.std.specs.List.{count_by, flat_map, fold}
-use Rattle.std.specs.Option.{is_none}
+use Rattle.std.proofs.Common.{◌≡◌, ℕ, zero, suc, ◌+◌, ◌*◌, ◌/◌, ◌%◌, ◌<◌, ◌≤◌, Bool, true, false, cond, List, [], ◌∷◌, ◌++◌, eqb, map, refl, ap, sym, ◌∙◌, arith, None, if◌then◌else◌, append_assoc}
+use Rattle.std.specs.List.{count_by, fold}
 use Rattle.std.specs.Fmt.{digits}
-use Rattle.std.proofs.lemmas.Bool.{and_from, and_parts, eqb-true, eqb-false}
+use Rattle.std.proofs.lemmas.Bool.{eqb-true, eqb-false}
 use Rattle.std.proofs.lemmas.List.{append-nil}
 use Rattle.std.proofs.lemmas.List.Sums.{sum_by_push}
-use Rattle.std.proofs.lemmas.Grind.{flat_map-append}
-use Rattle.trace_model.specs.declared.reasons.TraceWhy.{TraceWhy}
 use Rattle.trace_model.specs.Said.{Said, Drained, Merged, Ended, is_sample, is_record, is_part_end, images_named}
 use Rattle.trace_model.specs.Grammar.{first_that_applies, value_tests}
 use Rattle.trace_model.specs.Recording.{are_good, images_in_order, with_name}
+use Rattle.trace_model.proofs.Pushing.{good_push, images_push}
 use Rattle.trace_generator.specs.Draws.{draw, state_after}
 use Rattle.trace_generator.specs.Generator.{address_of, event_of, every_so_often, image_names, made_trace, mapped_first, sample_from, samples_to}
 use Rattle.trace_model.specs.declared.notices.Line.{Line}
@@ -19,19 +17,9 @@ use Rattle.trace_model.specs.Recording.{AreGood, InOrder, line_said, recording, 
 use Rattle.trace_generator.specs.Making.{said_of}
 use Rattle.trace_generator.proofs.Judging.{header, sample_passes, drain_passes, merge_passes, end_passes, address_fits}
 
-is_none_of : (o : Option TraceWhy) → o ≡ None → is_none o ≡ true
-is_none_of o e = ap is_none e
-
--- a good line behind good lines
-good_push : (before said : List (Said ℕ)) (next : Said ℕ) → are_good before said ≡ true → first_that_applies (value_tests (before ++ said) next) ≡ None → are_good before (said ++ next ∷ []) ≡ true
-good_push before [] next g e = and_from _ _ (is_none_of _ (subst (λ (l : List (Said ℕ)). first_that_applies (value_tests l next) ≡ None) (append-nil before) e)) refl
-good_push before (s ∷ said) next g e = let h = and_parts _ _ g in
-    and_from _ _ h.0 (good_push (before ++ s ∷ []) said next h.1 (subst (λ (l : List (Said ℕ)). first_that_applies (value_tests l next) ≡ None) (sym (append_assoc before (s ∷ []) said)) e))
-
 -- a line that names no image changes none
-images_push : (said : List (Said ℕ)) (next : Said ℕ) → images_named next ≡ [] → images_in_order (said ++ next ∷ []) ≡ images_in_order said
-images_push said next e = ap (fold with_name [])
-    (flat_map-append images_named said (next ∷ []) ∙ ap (λ (l : List (List ℕ)). flat_map images_named said ++ l) (append-nil (images_named next) ∙ e) ∙ append-nil (flat_map images_named said))
+no_image_push : (said : List (Said ℕ)) (next : Said ℕ) → images_named next ≡ [] → images_in_order (said ++ next ∷ []) ≡ images_in_order said
+no_image_push said next e = images_push said next ∙ ap (λ (l : List (List ℕ)). fold with_name (images_in_order said) l) e
 
 -- the lines behind the header are good, and have this many samples, records and ends of parts, and the images of a made trace
 pub record Holds (rest : List (Said ℕ)) (samples records parts : ℕ) : Type 0 where
@@ -54,7 +42,7 @@ push rest next a b c a' b' c' h passes none p q r = record {
   samples_are = count_push is_sample (header ∷ rest) next a a' h.samples_are p;
   records_are = count_push is_record (header ∷ rest) next b b' h.records_are q;
   parts_are = count_push is_part_end (header ∷ rest) next c c' h.parts_are r;
-  images_are = images_push (header ∷ rest) next none ∙ h.images_are;
+  images_are = no_image_push (header ∷ rest) next none ∙ h.images_are;
 }
 
 push_sample : (rest : List (Said ℕ)) (state a b c : ℕ) → Holds rest a b c → a < 2000000 → Holds (rest ++ sample_from state ∷ []) (a + 1) b c
@@ -128,7 +116,7 @@ samples_hold seed (suc n) h =
 pub made_holds : (seed n : ℕ) → n ≤ 2000000 → (are_good [] (made_trace seed n) ≡ true) × (images_in_order (made_trace seed n) ≡ image_names)
 made_holds seed n h = let all = samples_hold seed n h in (
   good_push [] (header ∷ (mapped_first ++ samples_to seed n)) Ended all.good (end_passes (mapped_first ++ samples_to seed n)),
-  images_push (header ∷ (mapped_first ++ samples_to seed n)) Ended refl ∙ all.images_are,
+  no_image_push (header ∷ (mapped_first ++ samples_to seed n)) Ended refl ∙ all.images_are,
 )
 
 -- what a trace of these images and lines says

@@ -1,57 +1,20 @@
 -- A text has one reading: the same lines, and no line is refused in it.
-use Rattle.std.proofs.Common.{◌≡◌, ℕ, ◌+◌, ◌<◌, true, false, List, [], ◌∷◌, ◌++◌, length, refl, ap, sym, subst, ◌∙◌, arith, Option, Some, None, Result, Ok, Err, append_assoc}
+use Rattle.std.proofs.Common.{◌≡◌, ℕ, ◌+◌, true, false, List, [], ◌∷◌, ◌++◌, length, refl, ap, sym, subst, ◌∙◌, arith, Option, Some, Result, Ok, Err, append_assoc}
 use Rattle.std.specs.List.{AllByRecursion, list_any}
 use Rattle.std.proofs.lemmas.List.{length-append}
-use Rattle.text_num.specs.Lines.{HasNoLineFeed, text_of_lines}
+use Rattle.std.proofs.lemmas.Option.{none-some}
+use Rattle.text_num.specs.Lines.{text_of_lines}
+use Rattle.text_num.proofs.Lines.{nil_line, feed_within, same_line, short_line, same_lines}
 use Rattle.trace_model.specs.declared.reasons.TraceWhy.{TraceWhy}
 use Rattle.trace_model.specs.Said.{Said, is_end}
 use Rattle.trace_model.specs.Grammar.{verdict, said_by, where_said, IsLine, Says, Refuses, Finished, Stopped, Unfinished, Overlong, FirstBad}
 use Rattle.trace_model.specs.Recording.{Recording, Reads, said_in}
-
-head_same : (x y : ℕ) (xs ys : List ℕ) → x ∷ xs ≡ y ∷ ys → x ≡ y
-head_same x y xs ys e = cc
-
-tail_same : (x y : ℕ) (xs ys : List ℕ) → x ∷ xs ≡ y ∷ ys → xs ≡ ys
-tail_same x y xs ys e = cc
-
-none_some : {A : Type 0} (x : A) → None ≡ Some x → ⊥
-none_some x e = cc
 
 some_same : (a b : List (Said ℕ)) → Some a ≡ Some b → a ≡ b
 some_same a b e = cc
 
 true_false : true ≡ false → ⊥
 true_false e = cc
-
-nil_cons : (x : ℕ) (xs : List ℕ) → [] ≡ x ∷ xs → ⊥
-nil_cons x xs e = cc
-
--- a finished line is not nothing
-nil_line : (line more : List ℕ) → [] ≡ line ++ 10 ∷ more → ⊥
-nil_line [] more e = nil_cons 10 more e
-nil_line (x ∷ line) more e = nil_cons x (line ++ 10 ∷ more) e
-
--- a text with a line feed is no piece of a line
-feed_within : (line more piece : List ℕ) → HasNoLineFeed piece → line ++ 10 ∷ more ≡ piece → ⊥
-feed_within [] more [] h e = nil_cons 10 more (sym e)
-feed_within [] more (y ∷ piece) h e = h.0 (sym (head_same 10 y more piece e))
-feed_within (x ∷ line) more [] h e = nil_cons x (line ++ 10 ∷ more) (sym e)
-feed_within (x ∷ line) more (y ∷ piece) h e = feed_within line more piece h.1 (tail_same x y (line ++ 10 ∷ more) piece e)
-
--- the first line of a text is one alone
-same_line : (a b xs ys : List ℕ) → HasNoLineFeed a → HasNoLineFeed b → a ++ 10 ∷ xs ≡ b ++ 10 ∷ ys → (a ≡ b) × (xs ≡ ys)
-same_line [] [] xs ys h k e = (refl, tail_same 10 10 xs ys e)
-same_line [] (y ∷ b) xs ys h k e = absurd (k.0 (sym (head_same 10 y xs (b ++ 10 ∷ ys) e)))
-same_line (x ∷ a) [] xs ys h k e = absurd (h.0 (head_same x 10 (a ++ 10 ∷ xs) ys e))
-same_line (x ∷ a) (y ∷ b) xs ys h k e = let p = same_line a b xs ys h.1 k.1 (tail_same x y (a ++ 10 ∷ xs) (b ++ 10 ∷ ys) e) in
-    (ap (λ l. x ∷ l) p.0 ∙ ap (λ z. z ∷ b) (head_same x y (a ++ 10 ∷ xs) (b ++ 10 ∷ ys) e), p.1)
-
--- a line is no shorter than the bytes without a line feed at its front
-short_line : (a b xs ys : List ℕ) → HasNoLineFeed b → length a < length b → a ++ 10 ∷ xs ≡ b ++ ys → ⊥
-short_line [] [] xs ys k l e = absurd (omega (arith, l))
-short_line [] (y ∷ b) xs ys k l e = k.0 (sym (head_same 10 y xs (b ++ ys) e))
-short_line (x ∷ a) [] xs ys k l e = absurd (omega (arith, l))
-short_line (x ∷ a) (y ∷ b) xs ys k l e = short_line a b xs ys k.1 (omega (arith, l)) (tail_same x y (a ++ 10 ∷ xs) (b ++ ys) e)
 
 -- the lines that are left behind the good ones
 record Left (rest : List ℕ) (said whole : List (Said ℕ)) : Type 0 where
@@ -64,7 +27,7 @@ left_by : (r : Result (Said ℕ) TraceWhy) (before said whole : List (Said ℕ))
     → ((s : Said ℕ) → said_by (before ++ s ∷ []) xs ≡ Some whole → said_by (before ++ s ∷ []) ys ≡ Some said → Left rest said whole)
     → where_said r (λ s. said_by (before ++ s ∷ []) xs) ≡ Some whole → where_said r (λ s. said_by (before ++ s ∷ []) ys) ≡ Some said → Left rest said whole
 left_by (Ok s) before said whole xs ys rest h e f = h s e f
-left_by (Err why) before said whole xs ys rest h e f = absurd (none_some whole e)
+left_by (Err why) before said whole xs ys rest h e f = absurd (none-some whole e)
 
 left_of : (before said whole : List (Said ℕ)) (lines good : List (List ℕ)) (rest : List ℕ) → AllByRecursion IsLine lines → AllByRecursion IsLine good
     → text_of_lines lines ≡ text_of_lines good ++ rest → said_by before lines ≡ Some whole → said_by before good ≡ Some said → Left rest said whole
@@ -79,7 +42,7 @@ not_refused_by : (lines : List (List ℕ)) (rest : List ℕ) (said whole : List 
     → list_any is_end whole ≡ true → Refuses said rest why → ⊥
 not_refused_by [] rest said whole why h e s ended (Finished line more is text bad) = nil_line line more (e ∙ text)
 not_refused_by (l ∷ lines) rest said whole why h e s ended (Finished line more is text bad) = let p = same_line l line (text_of_lines lines) more h.0.0 is.0 (e ∙ text) in
-    none_some whole (sym (ap (λ r. where_said r (λ x. said_by (said ++ x ∷ []) lines)) (ap (verdict said) p.0 ∙ bad)) ∙ s)
+    none-some whole (sym (ap (λ r. where_said r (λ x. said_by (said ++ x ∷ []) lines)) (ap (verdict said) p.0 ∙ bad)) ∙ s)
 not_refused_by [] rest said whole why h e s ended (Stopped is none reason) = true_false (sym ended ∙ ap (list_any is_end) (sym (some_same said whole s)) ∙ none)
 not_refused_by (l ∷ lines) rest said whole why h e s ended (Stopped is none reason) = feed_within l (text_of_lines lines) rest is.0 e
 not_refused_by [] rest said whole why h e s ended (Unfinished is some done reason) = some (sym e)
@@ -92,21 +55,13 @@ pub not_both : (bytes : List ℕ) (number : ℕ) (why : TraceWhy) (r : Recording
 not_both bytes number why r bad good = let left = left_of [] bad.said (said_in r) good.says.lines bad.lines bad.rest good.says.are_lines bad.are_lines (sym good.says.text ∙ bad.text) good.says.says bad.says in
     not_refused_by left.lines bad.rest bad.said (said_in r) why left.are_lines left.text left.says good.says.ended bad.refused
 
--- the lines of a text are these alone
-same_lines : (lines others : List (List ℕ)) → AllByRecursion IsLine lines → AllByRecursion IsLine others → text_of_lines lines ≡ text_of_lines others → lines ≡ others
-same_lines [] [] h k e = refl
-same_lines [] (other ∷ others) h k e = absurd (nil_line other (text_of_lines others) e)
-same_lines (line ∷ lines) [] h k e = absurd (nil_line line (text_of_lines lines) (sym e))
-same_lines (line ∷ lines) (other ∷ others) h k e = let p = same_line line other (text_of_lines lines) (text_of_lines others) h.0.0 k.0.0 e in
-    ap (λ (l : List (List ℕ)). line ∷ l) (same_lines lines others h.1 k.1 p.1) ∙ ap (λ (l : List ℕ). l ∷ others) p.0
-
 -- a text says one thing
 pub says_one : (bytes : List ℕ) (said other : List (Said ℕ)) → Says bytes said → Says bytes other → said ≡ other
-says_one bytes said other a b = some_same said other (sym a.says ∙ ap (said_by []) (same_lines a.lines b.lines a.are_lines b.are_lines (sym a.text ∙ b.text)) ∙ b.says)
+says_one bytes said other a b = some_same said other (sym a.says ∙ ap (said_by []) (same_lines IsLine (λ line h. h.0) a.lines b.lines a.are_lines b.are_lines (sym a.text ∙ b.text)) ∙ b.says)
 
 -- a line that says something is not refused
 taken_by : (r : Result (Said ℕ) TraceWhy) (why : TraceWhy) (whole : List (Said ℕ)) (next : Said ℕ → Option (List (Said ℕ))) → r ≡ Err why → where_said r next ≡ Some whole → ⊥
-taken_by r why whole next e f = none_some whole (sym (ap (λ (v : Result (Said ℕ) TraceWhy). where_said v next) e) ∙ f)
+taken_by r why whole next e f = none-some whole (sym (ap (λ (v : Result (Said ℕ) TraceWhy). where_said v next) e) ∙ f)
 
 line_not_refused : (before said : List (Said ℕ)) (line : List ℕ) (lines : List (List ℕ)) (rest : List ℕ) (why : TraceWhy) → IsLine line → said_by before (line ∷ lines) ≡ Some said → Refuses before (line ++ 10 ∷ rest) why → ⊥
 line_not_refused before said line lines rest why h s (Finished other more is text bad) = let p = same_line line other rest more h.0 is.0 text in
@@ -147,7 +102,7 @@ after_line : (r : Result (Said ℕ) TraceWhy) (before : List (Said ℕ)) (lines 
     → ((x : Said ℕ) → said_by (before ++ x ∷ []) lines ≡ Some said → said_by (before ++ x ∷ []) others ≡ Some told → Agree lines others why other)
     → where_said r (λ x. said_by (before ++ x ∷ []) lines) ≡ Some said → where_said r (λ x. said_by (before ++ x ∷ []) others) ≡ Some told → Agree (l ∷ lines) (g ∷ others) why other
 after_line (Ok x) before lines others why other said told l g h s t = let p = h x s t in record { number = omega (arith, p.number); reason = p.reason }
-after_line (Err e) before lines others why other said told l g h s t = absurd (none_some said s)
+after_line (Err e) before lines others why other said told l g h s t = absurd (none-some said s)
 
 one_line : (before : List (Said ℕ)) (lines others : List (List ℕ)) (rest left : List ℕ) (said told : List (Said ℕ)) (why other : TraceWhy) → AllByRecursion IsLine lines → AllByRecursion IsLine others
     → text_of_lines lines ++ rest ≡ text_of_lines others ++ left → said_by before lines ≡ Some said → said_by before others ≡ Some told → Refuses said rest why → Refuses told left other → Agree lines others why other

@@ -1,23 +1,26 @@
 -- The image of each place is one that the trace names.
-use Rattle.std.proofs.Common.{◌≡◌, ℕ, ◌-◌, ◌<◌, ◌==◌, ◌&&◌, Bool, true, false, if◌then◌else◌, zero, suc, List, [], ◌∷◌, ◌++◌, length, reverse, take, ap, sym, subst, ◌∙◌, ⊎_elim}
+use Rattle.std.proofs.Common.{◌≡◌, ℕ, ◌-◌, ◌<◌, ◌==◌, ◌&&◌, Bool, true, false, if◌then◌else◌, List, [], ◌∷◌, length, reverse, take, ap, sym, ◌∙◌, ⊎_elim}
 use Rattle.std.specs.declared.option.Option.{Option}
 use Rattle.std.specs.declared.option.Option.TheVariants.{Some, None}
 use Rattle.std.specs.List.{AllByRecursion}
 use Rattle.std.proofs.lemmas.Bool.{cases_lt, false≢true}
-use Rattle.std.proofs.lemmas.List.{get_or_past, reverse-append}
+use Rattle.std.proofs.lemmas.List.{get_or_past}
 use Rattle.std.proofs.lemmas.Option.{unwrap_or-slice_get}
 use Rattle.text_num.specs.Names.{is_name}
+use Rattle.text_num.proofs.Lists.{all_first, all_reversed}
 use Rattle.trace_model.specs.declared.notices.Place.{Place}
 use Rattle.trace_model.specs.declared.notices.Record.{Record}
 use Rattle.trace_model.specs.declared.notices.Record.TheVariants.{Scan, Load, Unload, Exec, Exit, Kernel, Drain, Merge, Epoch}
 use Rattle.trace_model.specs.Attribution.{covers, place_if_covered, Verdict, GoesOn, Decides, by_mapping, decides_where, says, decided_by, own_place, kernel_mapping, or_else, kernel_place, place_after}
 use Rattle.trace_model.specs.Recording.{HasImage, is_named, name_at}
 
-abbrev HasVerdict : List (List ℕ) → Verdict → Type 0
+-- the image of the place that a record decides on is one of these
+abbrev pub HasVerdict : List (List ℕ) → Verdict → Type 0
 HasVerdict images GoesOn = Unit {0}
 HasVerdict images (Decides place) = HasImage images place
 
-abbrev IsNamed : List (List ℕ) → Record → Type 0
+-- a record names an image, where it names one
+abbrev pub IsNamed : List (List ℕ) → Record → Type 0
 IsNamed images notice = is_named images notice ≡ true
 
 named_at : (images : List (List ℕ)) (i : ℕ) → is_name (name_at images i) ≡ true → i < length images
@@ -41,7 +44,8 @@ where_named : (images : List (List ℕ)) (b : Bool) (place : Option Place) → H
 where_named images true place h = h
 where_named images false place h = tt
 
-says_named : (images : List (List ℕ)) (notice : Record) (pid pc : ℕ) → IsNamed images notice → HasVerdict images (says notice pid pc)
+-- of one record
+pub says_named : (images : List (List ℕ)) (notice : Record) (pid pc : ℕ) → IsNamed images notice → HasVerdict images (says notice pid pc)
 says_named images (Scan process base size image) pid pc h = mapping_named images (process == pid) (place_if_covered base size image pc) (place_named images base size image pc h)
 says_named images (Load process base size image) pid pc h = mapping_named images (process == pid) (place_if_covered base size image pc) (place_named images base size image pc h)
 says_named images (Unload process base size) pid pc h = where_named images (process == pid && covers base size pc) None tt
@@ -52,7 +56,7 @@ says_named images Drain pid pc h = tt
 says_named images Merge pid pc h = tt
 says_named images Epoch pid pc h = tt
 
-kernel_named : (images : List (List ℕ)) (notice : Record) (pc : ℕ) → IsNamed images notice → HasImage images (kernel_mapping notice pc)
+pub kernel_named : (images : List (List ℕ)) (notice : Record) (pc : ℕ) → IsNamed images notice → HasImage images (kernel_mapping notice pc)
 kernel_named images (Scan process base size image) pc h = tt
 kernel_named images (Load process base size image) pc h = tt
 kernel_named images (Unload process base size) pc h = tt
@@ -63,11 +67,12 @@ kernel_named images Drain pc h = tt
 kernel_named images Merge pc h = tt
 kernel_named images Epoch pc h = tt
 
-decided_named : (images : List (List ℕ)) (verdict : Verdict) (place : Option Place) → HasVerdict images verdict → HasImage images place → HasImage images (decided_by verdict place)
+-- of a record and those before it
+pub decided_named : (images : List (List ℕ)) (verdict : Verdict) (place : Option Place) → HasVerdict images verdict → HasImage images place → HasImage images (decided_by verdict place)
 decided_named images GoesOn place h k = k
 decided_named images (Decides found) place h k = h
 
-either_named : (images : List (List ℕ)) (first second : Option Place) → HasImage images first → HasImage images second → HasImage images (or_else first second)
+pub either_named : (images : List (List ℕ)) (first second : Option Place) → HasImage images first → HasImage images second → HasImage images (or_else first second)
 either_named images None second h k = k
 either_named images (Some place) second h k = h
 
@@ -78,19 +83,6 @@ own_named images (notice ∷ earlier) pid pc h = decided_named images (says noti
 all_kernel_named : (images : List (List ℕ)) (latest : List Record) (pc : ℕ) → AllByRecursion (IsNamed images) latest → HasImage images (kernel_place latest pc)
 all_kernel_named images [] pc h = tt
 all_kernel_named images (notice ∷ earlier) pc h = either_named images (kernel_mapping notice pc) (kernel_place earlier pc) (kernel_named images notice pc h.0) (all_kernel_named images earlier pc h.1)
-
-all_push : {A : Type 0} (P : A → Type 0) (xs : List A) (x : A) → AllByRecursion P xs → P x → AllByRecursion P (xs ++ x ∷ [])
-all_push P [] x h k = (k, tt)
-all_push P (y ∷ xs) x h k = (h.0, all_push P xs x h.1 k)
-
-all_reversed : {A : Type 0} (P : A → Type 0) (xs : List A) → AllByRecursion P xs → AllByRecursion P (reverse xs)
-all_reversed P [] h = tt
-all_reversed P (x ∷ xs) h = subst (AllByRecursion P) (sym (reverse-append (x ∷ []) xs)) (all_push P (reverse xs) x (all_reversed P xs h.1) h.0)
-
-all_first : {A : Type 0} (P : A → Type 0) (n : ℕ) (xs : List A) → AllByRecursion P xs → AllByRecursion P (take n xs)
-all_first P zero xs h = tt
-all_first P (suc n) [] h = tt
-all_first P (suc n) (x ∷ xs) h = (h.0, all_first P n xs h.1)
 
 -- each place that the first of these records give an address
 pub place_has : (images : List (List ℕ)) (records : List Record) → AllByRecursion (λ notice. is_named images notice ≡ true) records → (applied pid pc : ℕ) → HasImage images (place_after (take applied records) pid pc)

@@ -25,7 +25,8 @@ use Rattle.trace_text.specs.Taking.{TakesLine}
 use Rattle.trace_text.specs.Progress.{Went, Stops, StopsIn, SaysNext, IsRefusal}
 use Rattle.trace_text.specs.Phases.{StepsBody, StepsSchedule}
 use Rattle.trace_text.specs.Refusing.{HaltsBy, IsOfLineRefusal, IsFirstBadBy}
-use Rattle.trace_text.proofs.Tracking.{count_push, images_push, good_push}
+use Rattle.trace_model.proofs.Pushing.{images_push, good_push}
+use Rattle.trace_text.proofs.Tracking.{count_push}
 use Rattle.trace_text.proofs.ScheduleSteps.{ended}
 use Rattle.trace_text.proofs.Walking.{went_line, went_on, stops_on, stops_finished}
 
@@ -82,14 +83,6 @@ none_yet b s = record {
 
 no_cons : (x : ℕ) (xs : List ℕ) → x ∷ xs ≡ [] → ⊥
 no_cons x xs e = cc
-
-nothing_behind : (front rest : List ℕ) → front ++ rest ≡ [] → rest ≡ []
-nothing_behind [] rest h = h
-nothing_behind (x ∷ front) rest h = absurd (no_cons x (front ++ rest) h)
-
-pub nothing_left : (left : Option (List ℕ)) (front : List ℕ) → IsAtEnd (prepend_known front left) → IsAtEnd left
-nothing_left None front h = tt
-nothing_left (Some rest) front h = nothing_behind front rest h
 
 whole_text : (bytes taken : List ℕ) (rest : Option (List ℕ)) → Consumes (Some bytes) rest taken → IsAtEnd rest → bytes ≡ taken
 whole_text bytes taken None c h = absurd c

@@ -16,7 +16,8 @@ use Rattle.trace_model.specs.declared.limits.TheConstants.{MOST_STEPS}
 use Rattle.trace_text.specs.Faults.{cpu_fault, number_fault, step_fault}
 use Rattle.trace_text.specs.Progress.{SaysNext}
 use Rattle.trace_text.proofs.Judged.{passes}
-use Rattle.trace_text.proofs.Tracking.{count_push, images_push, good_push}
+use Rattle.trace_model.proofs.Pushing.{images_push, good_push}
+use Rattle.trace_text.proofs.Tracking.{count_push}
 
 or_true : (b : Bool) → (b || true) ≡ true
 or_true true = refl

@@ -1,24 +1,22 @@
 -- What the reader counts, one line later.
-use Rattle.std.proofs.Common.{◌≡◌, ℕ, zero, suc, ◌+◌, ◌<◌, ◌≤◌, ◌&&◌, Bool, true, false, cond, List, [], ◌∷◌, ◌++◌, length, map, refl, ap, sym, subst, ◌∙◌, arith, Option, Some, None, if◌then◌else◌, append_assoc}
-use Rattle.std.specs.List.{count_by, list_all, list_any, flat_map, fold}
-use Rattle.std.specs.Option.{is_none}
+use Rattle.std.proofs.Common.{◌≡◌, ℕ, zero, suc, ◌+◌, ◌<◌, ◌≤◌, ◌&&◌, Bool, true, false, cond, List, [], ◌∷◌, ◌++◌, length, map, refl, ap, sym, ◌∙◌, arith, None, if◌then◌else◌}
+use Rattle.std.specs.List.{count_by, list_all, list_any, fold}
 use Rattle.std.specs.Str.{bytes_eq}
 use Rattle.std.proofs.lemmas.Bool.{and_parts, and_from, or_parts, leb-false, ltb-true, lt-ltb}
 use Rattle.std.proofs.lemmas.List.{append-nil, length-append}
-use Rattle.std.proofs.lemmas.List.Sums.{sum_by-append, fold-append}
+use Rattle.std.proofs.lemmas.List.Sums.{sum_by-append}
 use Rattle.std.proofs.lemmas.List.Folds.{list_all-append}
-use Rattle.std.proofs.lemmas.Grind.{flat_map-append}
 use Rattle.trace_model.specs.declared.notices.Record.{Record}
 use Rattle.trace_model.specs.declared.notices.Record.TheVariants.{Scan, Load, Unload, Exec, Exit, Kernel, Drain, Merge, Epoch}
 use Rattle.trace_model.specs.declared.notices.Line.{Line}
 use Rattle.trace_model.specs.declared.notices.Line.TheVariants.{Sample, Rec}
 use Rattle.sample_key.specs.declared.events.Event.{Event}
-use Rattle.trace_model.specs.declared.reasons.TraceWhy.{TraceWhy}
 use Rattle.sample_key.specs.declared.limits.TheConstants.{MOST_SAMPLES}
 use Rattle.trace_model.specs.declared.limits.TheConstants.{MOST_PARTS, MOST_RECORDS}
 use Rattle.trace_model.specs.Said.{Said, Sampled, Scanned, Loaded, Executed, KernelMapped, is_sample, is_record, is_step, is_part_end, may_precede_scan, images_named}
 use Rattle.trace_model.specs.Grammar.{first_that_applies, value_tests, is_record_too_many}
-use Rattle.trace_model.specs.Recording.{line_said, record_said, name_at, with_name, images_in_order, are_good}
+use Rattle.trace_model.specs.Recording.{line_said, record_said, name_at, with_name}
+use Rattle.trace_model.proofs.Pushing.{images_push, good_push}
 use Rattle.trace_text.specs.State.{Tracks, is_among, line_is_among}
 use Rattle.trace_text.proofs.Judged.{and_true, passes}
 
@@ -28,22 +26,6 @@ count_push p xs x = sum_by-append (λ y. cond (p y) 1 0) xs (x ∷ []) ∙ omega
 
 pub all_push : {A : Type 0} (p : A → Bool) (xs : List A) (x : A) → list_all p (xs ++ x ∷ []) ≡ (list_all p xs && p x)
 all_push p xs x = list_all-append p xs (x ∷ []) ∙ ap (λ b. list_all p xs && b) (and_true (p x))
-
-pub images_push : (said : List (Said ℕ)) (next : Said ℕ) → images_in_order (said ++ next ∷ []) ≡ fold with_name (images_in_order said) (images_named next)
-images_push said next = ap (fold with_name []) (flat_map-append images_named said (next ∷ []) ∙ ap (λ l. flat_map images_named said ++ l) (append-nil (images_named next)))
-    ∙ fold-append with_name [] (flat_map images_named said) (images_named next)
-
-is_none_of : (o : Option TraceWhy) → o ≡ None → is_none o ≡ true
-is_none_of None e = refl
-is_none_of (Some why) e = absurd (some_none e)
-  where
-    some_none : Some why ≡ None → ⊥
-    some_none e = cc
-
-pub good_push : (before said : List (Said ℕ)) (next : Said ℕ) → are_good before said ≡ true → first_that_applies (value_tests (before ++ said) next) ≡ None → are_good before (said ++ next ∷ []) ≡ true
-good_push before [] next g e = and_from _ _ (is_none_of _ (subst (λ (l : List (Said ℕ)). first_that_applies (value_tests l next) ≡ None) (append-nil before) e)) refl
-good_push before (s ∷ said) next g e = let h = and_parts _ _ g in
-    and_from _ _ h.0 (good_push (before ++ s ∷ []) said next h.1 (subst (λ (l : List (Said ℕ)). first_that_applies (value_tests l next) ≡ None) (sym (append_assoc before (s ∷ []) said)) e))
 
 -- an image keeps its index when one more is named
 pub name_at_front : (images more : List (List ℕ)) (i : ℕ) → i < length images → name_at (images ++ more) i ≡ name_at images i

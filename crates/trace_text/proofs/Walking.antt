@@ -1,25 +1,20 @@
 -- Lines read one after another.
 use Rattle.std.proofs.Common.{◌≡◌, ◌≢◌, ℕ, suc, ◌+◌, true, false, List, [], ◌∷◌, ◌++◌, length, refl, ap, sym, subst, ◌∙◌, arith, Option, Some, None, Result, Ok, Err, append_assoc}
-use Rattle.std.specs.List.{AllByRecursion, list_any}
+use Rattle.std.specs.List.{list_any}
 use Rattle.std.specs.Io.KnownBytes.{Consumes, IsAtEnd}
 use Rattle.std.proofs.KnownBytes.{Consumes-trans, Consumes-nil}
 use Rattle.std.proofs.lemmas.List.{length-append, append-nil}
 use Rattle.text_num.specs.Lines.{text_of_lines}
+use Rattle.text_num.proofs.Lines.{lines_append}
+use Rattle.text_num.proofs.Lists.{all_append}
 use Rattle.line_reader.specs.declared.faults.Ending.TheVariants as endings
 use Rattle.line_reader.specs.Reading.{ReadsLine}
+use Rattle.line_reader.proofs.Fronts.{taken_front}
 use Rattle.trace_model.specs.declared.reasons.TraceWhy.{TraceWhy}
 use Rattle.trace_model.specs.declared.reasons.TraceWhy.TheVariants.{NoEnd, AfterEnd}
 use Rattle.trace_model.specs.Said.{Said, is_end}
 use Rattle.trace_model.specs.Grammar.{verdict, said_by, where_said, IsLine, Refuses, Finished, Stopped, Unfinished, Overlong, why_no_form, stage_after}
 use Rattle.trace_text.specs.Progress.{Went, StopsIn, Stops}
-
-lines_append : (xs ys : List (List ℕ)) → text_of_lines (xs ++ ys) ≡ text_of_lines xs ++ text_of_lines ys
-lines_append [] ys = refl
-lines_append (x ∷ xs) ys = ap (λ l. x ++ 10 ∷ l) (lines_append xs ys) ∙ sym (append_assoc x (10 ∷ text_of_lines xs) (text_of_lines ys))
-
-are_append : (xs ys : List (List ℕ)) → AllByRecursion IsLine xs → AllByRecursion IsLine ys → AllByRecursion IsLine (xs ++ ys)
-are_append [] ys h k = k
-are_append (x ∷ xs) ys h k = (h.0, are_append xs ys h.1 k)
 
 some_none : {A : Type 0} (x : A) → None ≡ Some x → ⊥
 some_none x e = cc
@@ -56,16 +51,11 @@ went_line old new line before after said r v e = record {
 pub went_on : (a b c : Option (List ℕ)) (x y z : List (Said ℕ)) (m n k : ℕ) → Went a b x y m → Went b c y z n → k ≡ m + n → Went a c x z k
 went_on a b c x y z m n k v w e = record {
   lines = v.lines ++ w.lines;
-  are_lines = are_append v.lines w.lines v.are_lines w.are_lines;
+  are_lines = all_append IsLine v.lines w.lines v.are_lines w.are_lines;
   taken = subst (λ l. Consumes a c l) (sym (lines_append v.lines w.lines)) (Consumes-trans a b c (text_of_lines v.lines) (text_of_lines w.lines) v.taken w.taken);
   says = said_append x y v.lines w.lines v.says ∙ w.says;
   count_is = omega (arith, e, length-append v.lines w.lines, v.count_is, w.count_is);
 }
-
--- bytes that begin with what was taken
-taken_front : (bytes taken : List ℕ) (new : Option (List ℕ)) → Consumes (Some bytes) new taken → (rest : List ℕ) × (new ≡ Some rest) × (bytes ≡ taken ++ rest)
-taken_front bytes taken None c = absurd c
-taken_front bytes taken (Some rest) c = (rest, refl, c)
 
 -- a refusal behind lines that were read
 stops_in : (bytes : List ℕ) (b : Option (List ℕ)) (x y : List (Said ℕ)) (m k number : ℕ) (why : TraceWhy) (rest : List ℕ) → b ≡ Some rest
@@ -74,7 +64,7 @@ stops_in bytes b x y m k number why rest is w front s = record {
   lines = w.lines ++ s.lines;
   rest = s.rest;
   said = s.said;
-  are_lines = are_append w.lines s.lines w.are_lines s.are_lines;
+  are_lines = all_append IsLine w.lines s.lines w.are_lines s.are_lines;
   text = front ∙ ap (λ l. text_of_lines w.lines ++ l) s.text ∙ sym (append_assoc (text_of_lines w.lines) (text_of_lines s.lines) s.rest) ∙ ap (λ l. l ++ s.rest) (sym (lines_append w.lines s.lines));
   says = said_append x y w.lines s.lines w.says ∙ s.says;
   number_is = omega (arith, s.number_is, length-append w.lines s.lines, w.count_is);

@@ -3,6 +3,7 @@ use Rattle.std.specs.Prelude.{◌≡◌, ℕ, ◌<◌, length, ◌&&◌, Bool, t
 use Rattle.std.specs.declared.option.Option.{Option}
 use Rattle.std.specs.declared.option.Option.TheVariants.{Some, None}
 use Rattle.std.specs.Borrow.{Bor}
+use Rattle.text_num.specs.Fields.{fields_behind}
 use Rattle.text_num.specs.Numbers.{value_of}
 use Rattle.trace_model.specs.Grammar.{cut_at_spaces}
 use Rattle.trace_model.specs.Said.{Said, ShortHeader, LongHeader, Sampled, Scanned, Loaded, Unloaded, Executed, Exited, KernelMapped, Drained, Merged, EpochBegun, Ended, Turned, Polled, Advanced, Field, Decimal, PowerOfTwo, Address, Mapping, Title, every, tested, is_spelled, is_within, values_of}
@@ -18,15 +19,10 @@ use Rattle.trace_text.specs.declared.body_lines.SampleLine.{SampleLine}
 use Rattle.trace_text.specs.declared.schedule.StepForm.{StepForm}
 use Rattle.trace_text.specs.declared.schedule.StepForm.TheVariants as steps
 
--- the fields behind the first one
-abbrev pub fields_behind : Option (Bor (List ℕ)) → List (List ℕ)
-fields_behind None = []
-fields_behind (Some text) = cut_at_spaces text.now
-
 -- four fields were cut off, or there are fewer
 abbrev pub CutsFour : List ℕ → Option Four → Type 0
 CutsFour text None = length (cut_at_spaces text) < 4
-CutsFour text (Some f) = cut_at_spaces text ≡ f.a.now ∷ f.b.now ∷ f.c.now ∷ f.d.now ∷ fields_behind f.rest
+CutsFour text (Some f) = cut_at_spaces text ≡ f.a.now ∷ f.b.now ∷ f.c.now ∷ f.d.now ∷ fields_behind 32 f.rest
 
 -- four fields, and those behind them
 abbrev pub four_fields : Four → List (List ℕ) → List (List ℕ)

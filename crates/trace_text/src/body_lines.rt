@@ -8,9 +8,9 @@ ghost use Rattle.trace_model.specs.Said.{Mapping, every, tested, is_spelled, is_
 ghost use Rattle.trace_text.specs.Forms.{ReadsLine, ReadsMapping, body_shown, mapping_fields, notice_shown};
 ghost use Rattle.trace_text.specs.Forms.{notice_values, sample_shown, sample_values, values_shown};
 
-use crate::fields::{address, cut, decimal, range};
+use crate::fields::{address, decimal, range};
 use sample_key::{Event, LAST_CPU};
-use text_num::{is_dec, is_hex, is_name};
+use text_num::{cut_field, is_dec, is_hex, is_name};
 
 /// A line of the body: `D` are its decimal fields and `H` its hexadecimal ones, as they stand or as numbers.
 #[derive(Clone, Copy)]
@@ -97,23 +97,23 @@ pub type MappingValues<'a> = MappingLine<'a, u32, u64>;
 pub fn body_form(line: &[u8]) -> Option<BodyForm<'_>>
     ensures { option_map body_shown result ≡ body_of (cut_at_spaces line.now) }
 {
-    let (word, after_word) = cut(line);
+    let (word, after_word) = cut_field(line, b' ');
     let Some(behind_word) = after_word else {
         return alone(word);
     };
-    let (a, after_a) = cut(behind_word);
+    let (a, after_a) = cut_field(behind_word, b' ');
     let Some(behind_a) = after_a else {
         return with_one(word, a);
     };
-    let (b, after_b) = cut(behind_a);
+    let (b, after_b) = cut_field(behind_a, b' ');
     let Some(behind_b) = after_b else {
         return None;
     };
-    let (c, after_c) = cut(behind_b);
+    let (c, after_c) = cut_field(behind_b, b' ');
     let Some(behind_c) = after_c else {
         return with_three(word, a, b, c);
     };
-    let (d, after_d) = cut(behind_c);
+    let (d, after_d) = cut_field(behind_c, b' ');
     match after_d {
         None => with_four(word, a, b, c, d),
         Some(_) => None,

@@ -5,21 +5,10 @@ ghost use Rattle.text_num.specs.Numbers.{value_of};
 ghost use Rattle.trace_model.specs.Grammar.{cut_at_spaces};
 ghost use Rattle.trace_model.specs.Said.{Decimal, Address, Mapping, PowerOfTwo, is_table_size};
 ghost use Rattle.trace_model.specs.declared.limits.TheConstants.{MOST_BUCKETS};
-ghost use Rattle.trace_text.specs.Forms.{CutsFour, fields_behind, read_field, ReadsAs, ReadsRange};
+ghost use Rattle.trace_text.specs.Forms.{CutsFour, read_field, ReadsAs, ReadsRange};
 
-use memchr::memchr;
-use text_num::{read_dec, read_hex};
+use text_num::{cut_field, read_dec, read_hex};
 use trace_model::{GREATEST_END, TraceWhy};
-
-/// The first field of a text, and the text behind the space that ends it.
-pub fn cut(text: &[u8]) -> (&[u8], Option<&[u8]>)
-    ensures { cut_at_spaces text.now ≡ result.0.now ∷ fields_behind result.1 }
-{
-    match memchr(b' ', text) {
-        Some(at) => (&text[..at], Some(&text[at + 1..])),
-        None => (text, None),
-    }
-}
 
 /// Four fields, and the text behind the space that ends them.
 #[derive(Clone, Copy)]
@@ -35,10 +24,10 @@ pub struct Four<'a> {
 pub fn cut_four(text: &[u8]) -> Option<Four<'_>>
     ensures { CutsFour text.now result }
 {
-    let (a, after_a) = cut(text);
-    let (b, after_b) = cut(after_a?);
-    let (c, after_c) = cut(after_b?);
-    let (d, rest) = cut(after_c?);
+    let (a, after_a) = cut_field(text, b' ');
+    let (b, after_b) = cut_field(after_a?, b' ');
+    let (c, after_c) = cut_field(after_b?, b' ');
+    let (d, rest) = cut_field(after_c?, b' ');
     Some(Four { a, b, c, d, rest })
 }
 

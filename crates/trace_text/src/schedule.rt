@@ -12,10 +12,10 @@ ghost use Rattle.trace_text.specs.State.{AreSteps, Passes, said_with_steps};
 ghost use Rattle.trace_text.specs.Stepping.{JudgesStep, RefusesStep, TakesStep};
 
 use crate::body::Body;
-use crate::fields::{cut, decimal, why_not_read};
+use crate::fields::{decimal, why_not_read};
 use crate::refusals::LineRefusal;
 use sample_key::{LAST_CELL, LAST_CPU};
-use text_num::is_dec;
+use text_num::{cut_field, is_dec};
 use trace_model::{MOST_STEPS, Step, TraceWhy};
 
 /// Takes the next line of the schedule behind a body.
@@ -97,15 +97,15 @@ pub enum StepForm<'a> {
 pub fn step_form(line: &[u8]) -> Option<StepForm<'_>>
     ensures { option_map step_shown result ≡ step_of (cut_at_spaces line.now) }
 {
-    let (word, after_word) = cut(line);
+    let (word, after_word) = cut_field(line, b' ');
     let Some(behind_word) = after_word else {
         return alone(word);
     };
-    let (cpu, after_cpu) = cut(behind_word);
+    let (cpu, after_cpu) = cut_field(behind_word, b' ');
     let Some(behind_cpu) = after_cpu else {
         return with_one(word, cpu);
     };
-    let (cell, after_cell) = cut(behind_cpu);
+    let (cell, after_cell) = cut_field(behind_cpu, b' ');
     match after_cell {
         None => with_two(word, cpu, cell),
         Some(_) => None,

@@ -2,7 +2,8 @@
 use Rattle.std.proofs.Common.{rules, of_calls}
 use Rattle.std.proofs.lemmas.Fn.{always_returns_same}
 use Rattle.symbol_ranges.specs.Index.{is_before, symbol_at}
-use Rattle.symbol_ranges.proofs.Halving.{front_all, back_all, halves}
+use Rattle.text_num.proofs.Lists.{front_all, back_all}
+use Rattle.symbol_ranges.proofs.Halving.{halves}
 use Rattle.symbol_ranges.proofs.index.count_before.Goals as goal
 
 pub returns-clause-before : goal.returns-clause-before

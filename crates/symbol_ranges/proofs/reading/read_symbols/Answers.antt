@@ -2,7 +2,8 @@
 use Rattle.std.proofs.Common.{◌∙◌, [], arith}
 use Rattle.std.specs.Io.KnownBytes.{prepend_known}
 use Rattle.std.proofs.lemmas.Result.{err_from_is_err_and}
-use Rattle.symbol_ranges.proofs.Walking.{first_bad, nothing_left, reads_all, went_on}
+use Rattle.line_reader.proofs.Fronts.{nothing_left}
+use Rattle.symbol_ranges.proofs.Walking.{first_bad, reads_all, went_on}
 use Rattle.symbol_ranges.proofs.reading.read_symbols.Goals as goal
 
 pub returns-in_err-more-clause-bad : goal.returns-in_err-more-clause-bad

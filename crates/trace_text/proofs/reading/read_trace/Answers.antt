@@ -5,7 +5,8 @@ use Rattle.trace_model.specs.Said.{Ended}
 use Rattle.trace_model.specs.Traces.{recording_of}
 use Rattle.trace_text.specs.Judging.{size_shown}
 use Rattle.trace_text.specs.State.{said_in_body, said_with_steps}
-use Rattle.trace_text.proofs.Phasing.{bad_at_start, bad_behind, behind_body, reads_all, none_yet, nothing_left}
+use Rattle.line_reader.proofs.Fronts.{nothing_left}
+use Rattle.trace_text.proofs.Phasing.{bad_at_start, bad_behind, behind_body, reads_all, none_yet}
 use Rattle.trace_text.proofs.reading.read_trace.Goals as goal
 
 pub returns-in_err-sizes-clause-bad : goal.returns-in_err-sizes-clause-bad
