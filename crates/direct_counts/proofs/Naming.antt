@@ -1,82 +1,16 @@
 -- The image of each place is one that the trace names.
-use Rattle.std.proofs.Common.{◌≡◌, ℕ, ◌-◌, ◌<◌, ◌==◌, ◌&&◌, Bool, true, false, if◌then◌else◌, List, [], ◌∷◌, ◌++◌, length, reverse, ap, sym, ◌∙◌, ⊎_elim}
-use Rattle.std.specs.declared.option.Option.{Option}
-use Rattle.std.specs.declared.option.Option.TheVariants.{Some, None}
-use Rattle.std.proofs.lemmas.Bool.{cases_lt, false≢true}
-use Rattle.std.proofs.lemmas.List.{get_or_past, reverse-append}
-use Rattle.std.proofs.lemmas.Option.{unwrap_or-slice_get}
-use Rattle.text_num.specs.Names.{is_name}
-use Rattle.trace_model.specs.declared.notices.Place.{Place}
+use Rattle.std.proofs.Common.{ℕ, List, [], ◌∷◌, ◌++◌, reverse}
+use Rattle.std.proofs.lemmas.List.{reverse-append}
 use Rattle.trace_model.specs.declared.notices.Record.{Record}
-use Rattle.trace_model.specs.declared.notices.Record.TheVariants.{Scan, Load, Unload, Exec, Exit, Kernel, Drain, Merge, Epoch}
-use Rattle.trace_model.specs.Attribution.{covers, place_if_covered, Verdict, GoesOn, Decides, by_mapping, decides_where, says, decided_by, own_place, kernel_mapping, or_else, kernel_place, place_after}
-use Rattle.trace_model.specs.Recording.{HasImage, name_at, record_said}
-use Rattle.trace_model.specs.Said.{every, tested, is_titled}
-
--- a record names an image, where it names one
-abbrev pub IsTitled : List (List ℕ) → Record → Type 0
-IsTitled images entry = every is_titled (tested (record_said images entry)) ≡ true
-
-abbrev HasVerdict : List (List ℕ) → Verdict → Type 0
-HasVerdict images GoesOn = Unit {0}
-HasVerdict images (Decides place) = HasImage images place
-
-named_at : (images : List (List ℕ)) (i : ℕ) → is_name (name_at images i) ≡ true → i < length images
-named_at images i h = ⊎_elim (λ l. l)
-    (λ past. absurd (false≢true (sym (ap is_name (unwrap_or-slice_get images i [] ∙ get_or_past images i [] past)) ∙ h)))
-    (cases_lt i (length images))
-
-if_covered : (images : List (List ℕ)) (b : Bool) (i o : ℕ) → i < length images → HasImage images (if b then Some (record { image = i; offset = o }) else None)
-if_covered images true i o h = h
-if_covered images false i o h = tt
-
-place_named : (images : List (List ℕ)) (base size image pc : ℕ) → is_name (name_at images image) ≡ true → HasImage images (place_if_covered base size image pc)
-place_named images base size image pc h = if_covered images (covers base size pc) image (pc - base) (named_at images image h)
-
-mapping_named : (images : List (List ℕ)) (b : Bool) (place : Option Place) → HasImage images place → HasVerdict images (by_mapping b place)
-mapping_named images true (Some place) h = h
-mapping_named images true None h = tt
-mapping_named images false place h = tt
-
-where_named : (images : List (List ℕ)) (b : Bool) (place : Option Place) → HasImage images place → HasVerdict images (decides_where b place)
-where_named images true place h = h
-where_named images false place h = tt
-
-says_named : (images : List (List ℕ)) (entry : Record) (pid pc : ℕ) → IsTitled images entry → HasVerdict images (says entry pid pc)
-says_named images (Scan process base size image) pid pc h = mapping_named images (process == pid) (place_if_covered base size image pc) (place_named images base size image pc h)
-says_named images (Load process base size image) pid pc h = mapping_named images (process == pid) (place_if_covered base size image pc) (place_named images base size image pc h)
-says_named images (Unload process base size) pid pc h = where_named images (process == pid && covers base size pc) None tt
-says_named images (Exec process base size image) pid pc h = where_named images (process == pid) (place_if_covered base size image pc) (place_named images base size image pc h)
-says_named images (Exit process) pid pc h = where_named images (process == pid) None tt
-says_named images (Kernel base size image) pid pc h = tt
-says_named images Drain pid pc h = tt
-says_named images Merge pid pc h = tt
-says_named images Epoch pid pc h = tt
-
-kernel_named : (images : List (List ℕ)) (entry : Record) (pc : ℕ) → IsTitled images entry → HasImage images (kernel_mapping entry pc)
-kernel_named images (Scan process base size image) pc h = tt
-kernel_named images (Load process base size image) pc h = tt
-kernel_named images (Unload process base size) pc h = tt
-kernel_named images (Exec process base size image) pc h = tt
-kernel_named images (Exit process) pc h = tt
-kernel_named images (Kernel base size image) pc h = place_named images base size image pc h
-kernel_named images Drain pc h = tt
-kernel_named images Merge pc h = tt
-kernel_named images Epoch pc h = tt
-
-decided_named : (images : List (List ℕ)) (verdict : Verdict) (place : Option Place) → HasVerdict images verdict → HasImage images place → HasImage images (decided_by verdict place)
-decided_named images GoesOn place h k = k
-decided_named images (Decides found) place h k = h
-
-either_named : (images : List (List ℕ)) (first second : Option Place) → HasImage images first → HasImage images second → HasImage images (or_else first second)
-either_named images None second h k = k
-either_named images (Some place) second h k = h
+use Rattle.trace_model.specs.Attribution.{says, own_place, kernel_mapping, kernel_place, place_after}
+use Rattle.trace_model.specs.Recording.{HasImage}
+use Rattle.trace_laws.proofs.Naming.{IsNamed, says_named, kernel_named, decided_named, either_named}
 
 -- one record more
-pub own_more : (images : List (List ℕ)) (records : List Record) (entry : Record) → IsTitled images entry → ((pid pc : ℕ) → HasImage images (own_place (reverse records) pid pc)) → (pid pc : ℕ) → HasImage images (own_place (reverse (records ++ entry ∷ [])) pid pc)
+pub own_more : (images : List (List ℕ)) (records : List Record) (entry : Record) → IsNamed images entry → ((pid pc : ℕ) → HasImage images (own_place (reverse records) pid pc)) → (pid pc : ℕ) → HasImage images (own_place (reverse (records ++ entry ∷ [])) pid pc)
 own_more images records entry t h pid pc = rw (reverse-append records (entry ∷ [])) (decided_named images (says entry pid pc) (own_place (reverse records) pid pc) (says_named images entry pid pc t) (h pid pc))
 
-pub kernel_more : (images : List (List ℕ)) (records : List Record) (entry : Record) → IsTitled images entry → ((pc : ℕ) → HasImage images (kernel_place (reverse records) pc)) → (pc : ℕ) → HasImage images (kernel_place (reverse (records ++ entry ∷ [])) pc)
+pub kernel_more : (images : List (List ℕ)) (records : List Record) (entry : Record) → IsNamed images entry → ((pc : ℕ) → HasImage images (kernel_place (reverse records) pc)) → (pc : ℕ) → HasImage images (kernel_place (reverse (records ++ entry ∷ [])) pc)
 kernel_more images records entry t h pc = rw (reverse-append records (entry ∷ [])) (either_named images (kernel_mapping entry pc) (kernel_place (reverse records) pc) (kernel_named images entry pc t) (h pc))
 
 -- the place that these records give an address
