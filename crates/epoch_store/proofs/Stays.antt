@@ -182,16 +182,18 @@ segments_held g d c keeps (suc k) below most =
     ap (λ l. l ++ value_in segment (c (segment_file (suc k))) ∷ []) (segments_held g d c keeps k (omega arith) most)
     ∙ ap (λ o. segments_to k d ++ value_in segment o ∷ []) this
 
+-- where the rows of a head have the same profiles, and its generations the same segments, the files say the same
+pub same_parts : (h : heads.Head) (d c : Files) → ((epoch image event : ℕ) → known_at c (known_row h.known epoch image event) ≡ known_at d (known_row h.known epoch image event))
+    → ((epoch event : ℕ) → unknown_at c (unknown_row h.unknown epoch event) ≡ unknown_at d (unknown_row h.unknown epoch event))
+    → segments_to h.generation c ≡ segments_to h.generation d → database_of h c ≡ database_of h d
+same_parts h d c known unknown segments = λ t. record {
+  last_epoch = h.epoch;
+  runs = h.runs;
+  names = h.names;
+  known = λ epoch name event. at_image (place_of name h.names) (λ image. known epoch image event t);
+  unknown = λ epoch event. unknown epoch event t;
+  segments = segments t;
+}
+
 pub same_said : (h : heads.Head) (d c : Files) → Bounded h → Keeps (h.generation + 1) d c → database_of h c ≡ database_of h d
-same_said h d c is keeps =
-    let known = known_held h d c is keeps in
-    let unknown = unknown_held h d c is keeps in
-    let segments = segments_held (h.generation + 1) d c keeps h.generation (omega arith) (omega (arith, is.most)) in
-    λ t. record {
-      last_epoch = h.epoch;
-      runs = h.runs;
-      names = h.names;
-      known = λ epoch name event. at_image (place_of name h.names) (λ image. known epoch image event t);
-      unknown = λ epoch event. unknown epoch event t;
-      segments = segments t;
-    }
+same_said h d c is keeps = same_parts h d c (known_held h d c is keeps) (unknown_held h d c is keeps) (segments_held (h.generation + 1) d c keeps h.generation (omega arith) (omega (arith, is.most)))

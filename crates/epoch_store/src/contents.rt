@@ -85,7 +85,7 @@ fn put_file(
     Ok(())
 }
 
-/// The name of the seal of a generation.
+/// The name of the seal of a generation. The error is that there was no memory.
 pub fn seal_name(alloc: Global, g: u32) -> Result<Name, AllocError>
     ensures { IfOk result (λ name. name ≡ seal_file g) }
 {

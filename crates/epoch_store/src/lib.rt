@@ -17,6 +17,7 @@ mod seals;
 mod writes;
 
 pub use committing::commit;
+pub use contents::seal_name;
 pub use database::Database;
 pub use database_state::{
     Change, DbError, DbFault, FullWhat, KnownFile, KnownRow, UnknownFile, UnknownRow,

@@ -9,15 +9,15 @@ use Rattle.std.proofs.Math.Seq.{take-append_seam, drop-append-add, drop-append_s
 use Rattle.std.proofs.lemmas.Grind.{common_steps}
 use Rattle.head_file.specs.Words.{is_word}
 
-and_first : (a b : Bool) → (a && b) ≡ true → a ≡ true
+pub and_first : (a b : Bool) → (a && b) ≡ true → a ≡ true
 and_first true b h = refl
 and_first false b h = h
 
-and_second : (a b : Bool) → (a && b) ≡ true → b ≡ true
+pub and_second : (a b : Bool) → (a && b) ≡ true → b ≡ true
 and_second true b h = h
 and_second false b h = cc
 
-both : (a b : Bool) → a ≡ true → b ≡ true → (a && b) ≡ true
+pub both : (a b : Bool) → a ≡ true → b ≡ true → (a && b) ≡ true
 both a b x y = rw (x, y) refl
 
 above_blank : (b : ℕ) → nat_lt 32 b ≡ true → not (nat_le b 32) ≡ true

@@ -27,7 +27,7 @@ use Rattle.store_io.specs.Changes.{after_outcome, after_step, after_steps, chang
 use Rattle.std.specs.Option.{option_map, option_copied}
 use Rattle.std.proofs.Common.{Bor, ◌-◌, ◌≤◌}
 use Rattle.text_num.specs.Names.{is_name}
-use Rattle.store_io.proofs.History.{after_steps-append}
+use Rattle.store_io.proofs.History.{after_steps-append, and_first, and_second}
 
 -- ---- keys
 
@@ -40,14 +40,14 @@ ordered_texts (k ∷ ks) sorted = (below k ks sorted.0, ordered_texts ks sorted.
     below k [] all = tt
     below k (x ∷ xs) all = (all.0, below k xs all.1)
 
-equal_texts : (xs ys : List ℕ) → slice_cmp nat_cmp xs ys ≡ Equal → xs ≡ ys
+pub equal_texts : (xs ys : List ℕ) → slice_cmp nat_cmp xs ys ≡ Equal → xs ≡ ys
 equal_texts xs ys same = (bytes_eq-Decides xs ys).0 (sym (is_eq-slice_cmp xs ys) ∙ ap is_eq same)
 
-or_twice : (a r : Bool) → (a || r) ≡ (a || (a || r))
+pub or_twice : (a r : Bool) → (a || r) ≡ (a || (a || r))
 or_twice true r = refl
 or_twice false r = refl
 
-or_swap : (a b r : Bool) → (a || (b || r)) ≡ (b || (a || r))
+pub or_swap : (a b r : Bool) → (a || (b || r)) ≡ (b || (a || r))
 or_swap true true r = refl
 or_swap true false r = refl
 or_swap false true r = refl
@@ -69,14 +69,6 @@ listed_insert k (x ∷ xs) n = listed_at (by_bytes k x) k x xs (insert_key by_by
 
 and_true : (a b : Bool) → a ≡ true → b ≡ true → (a && b) ≡ true
 and_true a b x y = rw (x, y) refl
-
-and_first : (a b : Bool) → (a && b) ≡ true → a ≡ true
-and_first true b h = refl
-and_first false b h = h
-
-and_second : (a b : Bool) → (a && b) ≡ true → b ≡ true
-and_second true b h = h
-and_second false b h = cc
 
 names_at : (o : Ordering) (k x : Vec ℕ) (xs inserted : List (Vec ℕ)) → is_name (contents k) ≡ true → list_all is_name (map contents (x ∷ xs)) ≡ true → list_all is_name (map contents inserted) ≡ true → list_all is_name (map contents (match_ordering o (k ∷ x ∷ xs) (x ∷ xs) (x ∷ inserted))) ≡ true
 names_at Less k x xs inserted name all rest = and_true _ _ name all

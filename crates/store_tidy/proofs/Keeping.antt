@@ -6,7 +6,6 @@ use Rattle.std.proofs.lemmas.Slice.Eq.{bytes_eq-Decides}
 use Rattle.std.proofs.lemmas.List.Folds.{list_any-append}
 use Rattle.store_io.specs.Files.{Files}
 use Rattle.store_io.specs.Listing.{is_listed}
-use Rattle.image_catalog.specs.Images.{place_of}
 use Rattle.database_model.specs.ProfileForm.{format1}
 use Rattle.database_model.specs.SegmentForm.{segment}
 use Rattle.database_state.specs.Database.{Database}
@@ -14,10 +13,10 @@ use Rattle.database_state.specs.declared.rows.KnownRow.{KnownRow}
 use Rattle.database_state.specs.declared.rows.UnknownRow.{UnknownRow}
 use Rattle.database_state.specs.Rows.{known_row, unknown_row, known_same, unknown_same, known_place, unknown_place, known_file, unknown_file}
 use Rattle.database_state.specs.Heads as heads
-use Rattle.database_state.specs.Updates.{at_image}
 use Rattle.database_state.specs.Standing.{seal_file, head_file, segment_file, value_in, known_at, unknown_at, segments_to, HaveHead, database_of}
 use Rattle.head_file.proofs.Limits.{lt_of}
 use Rattle.epoch_store.proofs.Order.{cases}
+use Rattle.epoch_store.proofs.Stays.{same_parts}
 use Rattle.store_tidy.specs.FileForms.{is_file_name}
 use Rattle.store_tidy.specs.Unused.{segment_names, used_names, LosesUnused, Says}
 
@@ -126,18 +125,7 @@ segments_kept h d c loses (suc k) le =
     ∙ ap (λ o. segments_to k d ++ value_in segment o ∷ []) (kept h loses (segment_file (suc k)) (uses_segment h k (omega arith)))
 
 same_said : (h : heads.Head) (d c : Files) → LosesUnused h d c → database_of h c ≡ database_of h d
-same_said h d c loses =
-    let known = known_kept h d c loses in
-    let unknown = unknown_kept h d c loses in
-    let segments = segments_kept h d c loses h.generation (omega arith) in
-    λ t. record {
-      last_epoch = h.epoch;
-      runs = h.runs;
-      names = h.names;
-      known = λ epoch name event. at_image (place_of name h.names) (λ image. known epoch image event t);
-      unknown = λ epoch event. unknown epoch event t;
-      segments = segments t;
-    }
+same_said h d c loses = same_parts h d c (known_kept h d c loses) (unknown_kept h d c loses) (segments_kept h d c loses h.generation (omega arith))
 
 -- files that lose what the head does not use say what they said
 pub says_still : (h : heads.Head) (said : Database) (d c : Files) → LosesUnused h d c → Says h said d → Says h said c

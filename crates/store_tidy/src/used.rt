@@ -1,9 +1,7 @@
 //! The names of the files that a head uses, and those among the names of a store that it does not.
-ghost use Rattle.std.specs.Prelude.{◌≡◌, [], ◌∷◌, ◌&&◌, not, map, filter, IfOk, OnOk, string_bytes, true};
-ghost use Rattle.text_num.specs.Names.{is_name};
+ghost use Rattle.std.specs.Prelude.{◌≡◌, [], ◌∷◌, ◌&&◌, not, map, filter, IfOk, OnOk};
 ghost use Rattle.store_io.specs.Listing.{is_listed};
 ghost use Rattle.store_io.specs.FileNames.{file_name};
-ghost use Rattle.database_state.specs.Standing.{seal_file};
 ghost use Rattle.epoch_store.specs.Databases.{head_of};
 ghost use Rattle.store_tidy.specs.FileForms.{is_file_name};
 ghost use Rattle.store_tidy.specs.Sets.{HoldSame, Gains};
@@ -11,7 +9,7 @@ ghost use Rattle.store_tidy.specs.Unused.{segment_names, used_names, is_unused};
 
 use crate::forms::is_file_name;
 use database_state::Placed;
-use epoch_store::Database;
+use epoch_store::{Database, seal_name};
 use std::alloc::{AllocError, Global};
 use std::collections::BTreeSet;
 use store_io::{FileRef, name_of};
@@ -82,22 +80,4 @@ fn put_file(alloc: Global, used: &mut BTreeSet<Name>, file: FileRef) -> Result<(
 {
     used.insert(name_of(alloc, &file)?)?;
     Ok(())
-}
-
-/// The name of the seal of a generation.
-fn seal_name(alloc: Global, g: u32) -> Result<Name, AllocError>
-    ensures { IfOk result (λ name. name ≡ seal_file g) }
-{
-    let text = seal_text(alloc, g)?;
-    match Name::of_bytes(alloc, text.as_bytes())? {
-        Some(name) => Ok(name),
-        None => unreachable!(),
-    }
-}
-
-fn seal_text(alloc: Global, g: u32) -> Result<String, AllocError>
-    ensures text { IfOk result (λ text. string_bytes text ≡ seal_file g) }
-    ensures name { is_name (seal_file g) ≡ true }
-{
-    format!(in alloc; "seal.{g}")
 }
