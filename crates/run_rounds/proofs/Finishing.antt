@@ -143,10 +143,11 @@ lane_gets_on going trace cpu at first second third later0 later1 later2 processo
 abbrev pub own_round : Recording → List Step
 own_round trace = map Lane (cpus_of trace) ++ flat_map polls_of (cpus_of trace)
 
-own_all : (trace : Recording) → AllOf IsOwn (own_round trace)
+pub own_all : (trace : Recording) → AllOf IsOwn (own_round trace)
 own_all trace = all_append IsOwn (map Lane (cpus_of trace)) (flat_map polls_of (cpus_of trace)) (own_lanes 0 trace.cpus) (own_polls 0 trace.cpus)
 
-round_is : (trace : Recording) (system : System) → after_steps Free trace system (round trace) ≡ after_step Free trace (after_steps Free trace system (own_round trace)) Advance
+-- a round is turns and polls, and an advance
+pub round_is : (trace : Recording) (system : System) → after_steps Free trace system (round trace) ≡ after_step Free trace (after_steps Free trace system (own_round trace)) Advance
 round_is trace system =
     let lanes = map Lane (cpus_of trace) in
     let polls = flat_map polls_of (cpus_of trace) in

@@ -12,7 +12,6 @@ use Rattle.trace_model.specs.declared.notices.Step.TheVariants.{Lane, Advance}
 use Rattle.driver_model.specs.Lists.{AllOf}
 use Rattle.driver_model.specs.Sides.{is_even}
 use Rattle.driver_model.specs.Driver.{Driver}
-use Rattle.driver_laws.proofs.Lists.{all_append}
 use Rattle.run_model.specs.Running.{Processor, System, setup_of, new_processor, turned, rung, rung_if, words_of, cpus_of, advance_in, start, after_step, after_steps, round, rounds, enough_rounds, reference_run}
 use Rattle.run_model.specs.Shares.{drains_of}
 use Rattle.run_laws.specs.Laws.{IsFit}
@@ -20,9 +19,9 @@ use Rattle.run_laws.proofs.Driven.{DriverLaws}
 use Rattle.run_laws.proofs.Turning.{lane_turned}
 use Rattle.run_laws.proofs.Systems.{SystemHolds, got_map, fit_setup, start_holds, steps_hold}
 use Rattle.run_laws.proofs.Endings.{got_within}
-use Rattle.run_rounds.proofs.Own.{IsOwn, own_steps, own_append, own_lanes, own_polls, lanes_here, polls_here, polls_of, polled_all, steps_got, steps_still, steps_append, step_acts}
+use Rattle.run_rounds.proofs.Own.{own_steps, own_append, lanes_here, polls_here, polls_of, polled_all, steps_got, steps_still, steps_append, step_acts}
 use Rattle.run_rounds.proofs.Taking.{IsTaken, all_polled}
-use Rattle.run_rounds.proofs.Finishing.{own_round, stays}
+use Rattle.run_rounds.proofs.Finishing.{own_all, own_round, round_is, stays}
 use Rattle.unscheduled_runs.proofs.Keeping.{AreBack, turn_same}
 
 -- all that a processor handed was taken, and nothing was lost
@@ -62,18 +61,6 @@ quiet_rung (Some value) processors quiet = λ k p got.
     let before = quiet k found.0 found.1 in
     subst (λ (q : Processor). IsQuiet q) (sym found.2)
     (record { taken = record { first = before.taken.first; second = before.taken.second; third = before.taken.third }; none = before.none })
-
-own_all : (trace : Recording) → AllOf IsOwn (own_round trace)
-own_all trace = all_append IsOwn (map Lane (cpus_of trace)) (flat_map polls_of (cpus_of trace)) (own_lanes 0 trace.cpus) (own_polls 0 trace.cpus)
-
--- a round is turns and polls, and an advance
-round_is : (trace : Recording) (system : System) → after_steps Free trace system (round trace) ≡ after_step Free trace (after_steps Free trace system (own_round trace)) Advance
-round_is trace system =
-    let lanes = map Lane (cpus_of trace) in
-    let polls = flat_map polls_of (cpus_of trace) in
-    steps_append Free trace system lanes (polls ++ Advance ∷ [])
-    ∙ steps_append Free trace (after_steps Free trace system lanes) polls (Advance ∷ [])
-    ∙ ap {B = System} (λ (s : System). after_step Free trace s Advance) (sym (steps_append Free trace system lanes polls))
 
 -- a processor after its turn and its polls
 own_is : (trace : Recording) (k : ℕ) (processor : Processor) → k < trace.cpus
