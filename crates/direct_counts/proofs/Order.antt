@@ -1,5 +1,5 @@
 -- The order in which counts are listed, and what it says of two spots.
-use Rattle.std.proofs.Common.{◌≡◌, ℕ, ◌&&◌, Bool, true, false, eqb, List, [], Some, refl, ap, sym, ◌∙◌, arith}
+use Rattle.std.proofs.Common.{◌≡◌, ℕ, ◌&&◌, Bool, true, false, eqb, List, [], refl, ap, sym, ◌∙◌, arith}
 use Rattle.std.specs.declared.cmp.Ordering.{Ordering}
 use Rattle.std.specs.declared.cmp.Ordering.TheVariants.{Less, Equal, Greater}
 use Rattle.std.specs.Ordering.{nat_cmp, ordering_then, ordering_reverse, is_eq, on, then_cmp}
@@ -12,8 +12,8 @@ use Rattle.std.proofs.lemmas.Cmp.{nat_cmp_total, nat_list_cmp_total, on_total, t
 use Rattle.std.proofs.lemmas.Map.Text.{is_eq-slice_cmp}
 use Rattle.std.proofs.lemmas.Slice.Eq.{bytes_eq-Decides}
 use Rattle.sample_key.specs.declared.events.Event.{Event}
-use Rattle.sample_key.specs.declared.events.Event.TheVariants.{Cycles, Imiss, Dmiss, Branchmp}
-use Rattle.sample_key.specs.Events.{code_of, event_of_code}
+use Rattle.sample_key.specs.Events.{code_of}
+use Rattle.sample_key.proofs.Codes.{same_event}
 use Rattle.trace_model.specs.Counting.{Spot, Known, Unknown, spot_cmp, same_spot}
 
 -- the parts by which a spot stands: known ones first
@@ -95,18 +95,6 @@ same_less a b h = sym (same_by_cmp a b) ∙ ap is_eq h
 
 pub same_itself : (a : Spot) → same_spot a a ≡ true
 same_itself a = sym (same_by_cmp a a) ∙ ap is_eq (tied a)
-
-event_back : (v : Event) → event_of_code (code_of v) ≡ Some v
-event_back Cycles = refl
-event_back Imiss = refl
-event_back Dmiss = refl
-event_back Branchmp = refl
-
-some_same : {v w : Event} → Some v ≡ Some w → v ≡ w
-some_same h = cc
-
-same_event : (v w : Event) → code_of v ≡ code_of w → v ≡ w
-same_event v w h = some_same (sym (event_back v) ∙ (ap event_of_code h ∙ event_back w))
 
 known_same : {e f : ℕ} {image other : List ℕ} {v w : Event} {o p : ℕ} → e ≡ f → image ≡ other → v ≡ w → o ≡ p → Known e image v o ≡ Known f other w p
 known_same a b c d = cc

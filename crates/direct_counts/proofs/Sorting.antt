@@ -14,7 +14,7 @@ use Rattle.sample_key.specs.declared.events.Event.TheVariants.{Cycles, Imiss, Dm
 use Rattle.sample_key.specs.Events.{code_of}
 use Rattle.trace_model.specs.Counting.{spot_cmp, same_spot}
 use Rattle.trace_model.specs.Recording.{name_at}
-use Rattle.sample_key.specs.contracts.events.EventOrd.TheImpl as event_ord
+use Rattle.sample_key.proofs.Codes.{event_cmp, by_codes}
 use Rattle.sample_key.specs.contracts.events.EventPartialEq.TheImpl as event_partial_eq
 use Rattle.direct_counts.specs.contracts.sites.SiteOrd.TheImpl as site_ord
 use Rattle.direct_counts.specs.contracts.sites.SitePartialEq.TheImpl as site_partial_eq
@@ -24,29 +24,8 @@ use Rattle.direct_counts.specs.Ranks.{IsRank}
 use Rattle.direct_counts.specs.Sites.{IsRanked, spot_shown}
 use Rattle.direct_counts.proofs.Order.{both_same, four_and, three_and}
 
-abbrev event_cmp : Event → Event → Ordering
-event_cmp = event_ord.cmp-value.it
-
 abbrev event_eq : Event → Event → Bool
 event_eq = event_partial_eq.eq-value.it
-
-by_codes : (v w : Event) → event_cmp v w ≡ nat_cmp (code_of v) (code_of w)
-by_codes Cycles Cycles = refl
-by_codes Cycles Imiss = refl
-by_codes Cycles Dmiss = refl
-by_codes Cycles Branchmp = refl
-by_codes Imiss Cycles = refl
-by_codes Imiss Imiss = refl
-by_codes Imiss Dmiss = refl
-by_codes Imiss Branchmp = refl
-by_codes Dmiss Cycles = refl
-by_codes Dmiss Imiss = refl
-by_codes Dmiss Dmiss = refl
-by_codes Dmiss Branchmp = refl
-by_codes Branchmp Cycles = refl
-by_codes Branchmp Imiss = refl
-by_codes Branchmp Dmiss = refl
-by_codes Branchmp Branchmp = refl
 
 eq_codes : (v w : Event) → event_eq v w ≡ eqb (code_of v) (code_of w)
 eq_codes Cycles Cycles = refl

@@ -21,7 +21,8 @@ use Rattle.profile_merge.specs.Renewing.{Parts, IsGathered, ArePartsOf}
 use Rattle.profile_merge.proofs.Counting.{found_are}
 use Rattle.profile_merge.proofs.Names.{StandsAt, name_there, own_place}
 use Rattle.profile_merge.proofs.Numbers.{numbers_stand, fresh_chosen}
-use Rattle.profile_merge.proofs.OwnerOrder.{same_itself, same_equal, event_back}
+use Rattle.sample_key.proofs.Codes.{event_back}
+use Rattle.profile_merge.proofs.OwnerOrder.{same_itself, same_equal}
 
 -- ---- what was gathered counts something
 

@@ -9,7 +9,8 @@ use Rattle.profile_merge.specs.declared.owners.Owner.{Owner}
 use Rattle.profile_merge.specs.declared.owners.Owner.TheVariants.{Known, Unknown}
 use Rattle.profile_merge.specs.Sums.{same_owner}
 use Rattle.profile_merge.specs.Faults.{ComesBefore}
-use Rattle.profile_merge.proofs.OwnerOrder.{owner_cmp, owner_total, by_codes, same_by_cmp, same_equal}
+use Rattle.sample_key.proofs.Codes.{by_codes}
+use Rattle.profile_merge.proofs.OwnerOrder.{owner_cmp, owner_total, same_by_cmp, same_equal}
 
 then_is : (t u : Bool) (o : Ordering) → is_lt (ordering_then (cond t Less (cond u Equal Greater)) o) ≡ (t || (u && is_lt o))
 then_is true u o = refl

@@ -23,7 +23,8 @@ use Rattle.profile_merge.specs.declared.owners.Owner.TheVariants.{Known, Unknown
 use Rattle.profile_merge.specs.Sums.{Collected, same_owner, gathered_at, owner_at, offset_at, entries_add, AddsEntries}
 use Rattle.profile_merge.specs.Gathering.{known_by, unknown_by, additions_in, ImagesAreIn, EpochsAreUpTo, epoch_of, Gathers, drained}
 use Rattle.profile_merge.proofs.Names.{name_test}
-use Rattle.profile_merge.proofs.OwnerOrder.{same_itself, event_back}
+use Rattle.sample_key.proofs.Codes.{event_back}
+use Rattle.profile_merge.proofs.OwnerOrder.{same_itself}
 
 flip : (a b : ℕ) → eqb a b ≡ eqb b a
 flip a b = grind (arith, nat_tests)

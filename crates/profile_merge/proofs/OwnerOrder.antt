@@ -1,5 +1,5 @@
 -- Profiles in their order, and which are one.
-use Rattle.std.proofs.Common.{arith, ◌≡◌, ℕ, ◌&&◌, Bool, true, false, eqb, Some, refl, sym, ap, ◌∙◌, subst}
+use Rattle.std.proofs.Common.{arith, ◌≡◌, ℕ, ◌&&◌, Bool, true, false, eqb, refl, sym, ap, ◌∙◌, subst}
 use Rattle.std.specs.declared.cmp.Ordering.{Ordering}
 use Rattle.std.specs.Ordering.{nat_cmp, ordering_then, is_eq, on, then_cmp}
 use Rattle.std.specs.Cmp.{IsTotalOrder, tied_then}
@@ -8,34 +8,12 @@ use Rattle.std.proofs.lemmas.Bool.{and_parts, eqb-true}
 use Rattle.std.proofs.lemmas.Bool.Decides.{nat_tests}
 use Rattle.std.proofs.lemmas.Cmp.{nat_cmp_total, on_total, then_total, tied_itself}
 use Rattle.sample_key.specs.declared.events.Event.{Event}
-use Rattle.sample_key.specs.declared.events.Event.TheVariants.{Cycles, Imiss, Dmiss, Branchmp}
-use Rattle.sample_key.specs.Events.{code_of, event_of_code}
-use Rattle.sample_key.specs.contracts.events.EventOrd.TheImpl as event_ord
+use Rattle.sample_key.specs.Events.{code_of}
+use Rattle.sample_key.proofs.Codes.{event_cmp, by_codes, same_event}
 use Rattle.profile_merge.specs.contracts.owners.OwnerOrd.TheImpl as owner_ord
 use Rattle.profile_merge.specs.declared.owners.Owner.{Owner}
 use Rattle.profile_merge.specs.declared.owners.Owner.TheVariants.{Known, Unknown}
 use Rattle.profile_merge.specs.Sums.{same_owner}
-
-abbrev event_cmp : Event → Event → Ordering
-event_cmp = event_ord.cmp-value.it
-
-pub by_codes : (v w : Event) → event_cmp v w ≡ nat_cmp (code_of v) (code_of w)
-by_codes Cycles Cycles = refl
-by_codes Cycles Imiss = refl
-by_codes Cycles Dmiss = refl
-by_codes Cycles Branchmp = refl
-by_codes Imiss Cycles = refl
-by_codes Imiss Imiss = refl
-by_codes Imiss Dmiss = refl
-by_codes Imiss Branchmp = refl
-by_codes Dmiss Cycles = refl
-by_codes Dmiss Imiss = refl
-by_codes Dmiss Dmiss = refl
-by_codes Dmiss Branchmp = refl
-by_codes Branchmp Cycles = refl
-by_codes Branchmp Imiss = refl
-by_codes Branchmp Dmiss = refl
-by_codes Branchmp Branchmp = refl
 
 -- ---- the order
 
@@ -103,18 +81,6 @@ at_is_same a = λ t b. same_by_cmp a b t
 
 pub same_itself : (a : Owner) → same_owner a a ≡ true
 same_itself a = sym (same_by_cmp a a) ∙ ap is_eq (tied_itself owner_total a)
-
-pub event_back : (v : Event) → event_of_code (code_of v) ≡ Some v
-event_back Cycles = refl
-event_back Imiss = refl
-event_back Dmiss = refl
-event_back Branchmp = refl
-
-some_same : {v w : Event} → Some v ≡ Some w → v ≡ w
-some_same h = cc
-
-pub same_event : (v w : Event) → code_of v ≡ code_of w → v ≡ w
-same_event v w h = some_same (sym (event_back v) ∙ (ap event_of_code h ∙ event_back w))
 
 known_same : {e f i j : ℕ} {v w : Event} → e ≡ f → i ≡ j → v ≡ w → Known e i v ≡ Known f j w
 known_same a b c = cc
