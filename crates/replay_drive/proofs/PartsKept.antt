@@ -18,6 +18,7 @@ use Rattle.trace_model.specs.declared.notices.Step.{Step}
 use Rattle.driver_model.specs.Lists.{AllOf}
 use Rattle.database_model.specs.Runs.{Drained, Segment}
 use Rattle.database_state.specs.declared.faults.DbFault.{DbFault}
+use Rattle.database_state.specs.Heads.{Head}
 use Rattle.growth_model.specs.Grown.{epoch_after_parts}
 use Rattle.run_model.specs.Books.{IsBefore}
 use Rattle.run_model.specs.Daemon.{Advancing, Daemon, drain_of}
@@ -184,6 +185,21 @@ parts_ended trace d e done is fine kind left before commit state part noted keep
           ∙ ap (λ (z : List Drained). drains_in_part (records_in trace) e.part z) (sym left ∙ ap (λ (z : Daemon). z.drains) (sym state));
     }
 
+-- segments of the same parts are the same
+abbrev pub segment_with : ℕ → ℕ → Bool → ℕ → List Drained → List (List Loss) → Segment
+segment_with run part last first drains losses = record { run = run; part = part; last = last; first_epoch = first; drains = drains; losses = losses }
+
+pub segment_parts : {r1 r2 p1 p2 : ℕ} {l1 l2 : Bool} {f1 f2 : ℕ} {d1 d2 : List Drained} {x1 x2 : List (List Loss)} → r1 ≡ r2 → p1 ≡ p2 → l1 ≡ l2 → f1 ≡ f2 → d1 ≡ d2 → x1 ≡ x2
+    → segment_with r1 p1 l1 f1 d1 x1 ≡ segment_with r2 p2 l2 f2 d2 x2
+segment_parts r p l f d x = λ i. segment_with (r i) (p i) (l i) (f i) (d i) (x i)
+
+-- and so are parts
+abbrev pub part_with : Head → List (List ℕ) → List Record → ℕ → Segment → Part
+part_with head images records epoch segment = record { images = images; records = records; head = head; epoch = epoch; segment = segment }
+
+pub whole_part : (head : Head) {i1 i2 : List (List ℕ)} {r1 r2 : List Record} {e1 e2 : ℕ} {s1 s2 : Segment} → i1 ≡ i2 → r1 ≡ r2 → e1 ≡ e2 → s1 ≡ s2 → part_with head i1 r1 e1 s1 ≡ part_with head i2 r2 e2 s2
+whole_part head images records epoch segment = λ i. part_with head (images i) (records i) (epoch i) (segment i)
+
 -- it is the next part of the record of a run that goes on from here
 pub next_part : (trace : Recording) (run first_epoch : ℕ) (d : Collection) (done : Advancing) (system : System) (rest : List Step)
     → d.trace ≡ trace → d.run ≡ run → d.first_epoch ≡ first_epoch → d.failure ≡ None → Kind d.pace (records_in d.trace) d.state done → commits d done.answer ≡ true
@@ -203,20 +219,7 @@ next_part trace run first_epoch d done system rest is run_is first_is fine kind 
     let at_epoch : done.daemon.epoch ≡ epoch_after_parts first_epoch records (d.part + 1) =
     epoch ∙ books ∙ epoch_by_parts first_epoch records system.daemon.applied ∙ ap (λ n. epoch_after_parts first_epoch records n) now in
     record {
-      same = whole_part (ap (λ (t : Recording). t.images) is) (ap records_in is) at_epoch
+      same = whole_part d.head (ap (λ (t : Recording). t.images) is) (ap records_in is) at_epoch
           (segment_parts run_is refl (sym mid) first_is mine (sym (cond-false (eqb d.part (last_part records)) kept.losses [] mid)));
       within = omega (arith, most);
     }
-  where
-    segment_with : ℕ → ℕ → Bool → ℕ → List Drained → List (List Loss) → Segment
-    segment_with run part last first drains losses = record { run = run; part = part; last = last; first_epoch = first; drains = drains; losses = losses }
-
-    segment_parts : {r1 r2 p1 p2 : ℕ} {l1 l2 : Bool} {f1 f2 : ℕ} {d1 d2 : List Drained} {x1 x2 : List (List Loss)} → r1 ≡ r2 → p1 ≡ p2 → l1 ≡ l2 → f1 ≡ f2 → d1 ≡ d2 → x1 ≡ x2
-        → segment_with r1 p1 l1 f1 d1 x1 ≡ segment_with r2 p2 l2 f2 d2 x2
-    segment_parts r p l f d x = λ i. segment_with (r i) (p i) (l i) (f i) (d i) (x i)
-
-    part_with : List (List ℕ) → List Record → ℕ → Segment → Part
-    part_with images records epoch segment = record { images = images; records = records; head = d.head; epoch = epoch; segment = segment }
-
-    whole_part : {i1 i2 : List (List ℕ)} {r1 r2 : List Record} {e1 e2 : ℕ} {s1 s2 : Segment} → i1 ≡ i2 → r1 ≡ r2 → e1 ≡ e2 → s1 ≡ s2 → part_with i1 r1 e1 s1 ≡ part_with i2 r2 e2 s2
-    whole_part images records epoch segment = λ i. part_with (images i) (records i) (epoch i) (segment i)

@@ -1,5 +1,5 @@
 -- The end of a replay: what the drivers lost is that of the run, and the rest is the run's last part.
-use Rattle.std.proofs.Common.{◌≡◌, refl, sym, ◌∙◌, ap, subst, ℕ, ◌+◌, List, [], ◌∷◌, length, take, arith, Bool, true, None, eqb, eq-eqb}
+use Rattle.std.proofs.Common.{◌≡◌, refl, sym, ◌∙◌, ap, subst, ℕ, ◌+◌, List, [], ◌∷◌, length, take, arith, true, None, eqb, eq-eqb}
 use Rattle.std.proofs.lemmas.Bool.{cond-true}
 use Rattle.std.specs.Prelude.{map, filter}
 use Rattle.std.specs.List.{All, count_by}
@@ -14,7 +14,7 @@ use Rattle.trace_model.specs.declared.notices.Record.{Record}
 use Rattle.trace_model.specs.declared.notices.Step.{Step}
 use Rattle.driver_model.specs.declared.plans.Stats.{Stats}
 use Rattle.database_model.specs.Ranges.{AreLosses}
-use Rattle.database_model.specs.Runs.{Drained, Segment}
+use Rattle.database_model.specs.Runs.{Drained}
 use Rattle.growth_model.specs.Grown.{epoch_after_parts, part_count}
 use Rattle.lane_side.specs.Plain.{Plain}
 use Rattle.cpu_lane.specs.Seen.{Seen}
@@ -33,7 +33,7 @@ use Rattle.replay_drive.specs.Replaying.{HasTaken}
 use Rattle.replay_drive.specs.Ending.{HasEnded}
 use Rattle.replay_drive.specs.declared.replays.Replay.{Replay}
 use Rattle.replay_drive.proofs.Among.{as_many}
-use Rattle.replay_drive.proofs.PartsKept.{epoch_by_parts}
+use Rattle.replay_drive.proofs.PartsKept.{epoch_by_parts, segment_parts, whole_part}
 use Rattle.replay_drive.proofs.StepsMany.{take_all}
 use Rattle.replay_drive.proofs.StepsTaken.{as_many_sides}
 use Rattle.replay_drive.proofs.StoreKept.{IsNextPart}
@@ -100,7 +100,7 @@ last_next laws trace run first_epoch steps replay losses ended fine keeps lost =
     ∙ ap (λ n. epoch_after_parts first_epoch records n) (ap (λ n. part_of records n) (ap (λ (z : Daemon). z.applied) (sym stands.state)) ∙ sym (keeps.part fine))
     ∙ ap (λ (z : List Record). epoch_after first_epoch z) (taken_whole records d.part last ∙ sym (taken_whole_more records d.part last)) in (
       record {
-        same = whole_part (ap (λ (t : Recording). t.images) stands.trace_is) (ap records_in stands.trace_is) at_epoch
+        same = whole_part replay.daemon.head (ap (λ (t : Recording). t.images) stands.trace_is) (ap records_in stands.trace_is) at_epoch
             (segment_parts stands.run_is refl (sym is) stands.first_is
             (keeps.noted fine ∙ ap (λ (z : List Drained). drains_in_part records d.part z) (stands.drains fine))
             (lost ∙ sym (cond-true (eqb d.part (last_part records)) kept.losses [] is)));
@@ -109,19 +109,6 @@ last_next laws trace run first_epoch steps replay losses ended fine keeps lost =
       ap (λ n. n + 1) last,
     )
   where
-    segment_with : ℕ → ℕ → Bool → ℕ → List Drained → List (List Loss) → Segment
-    segment_with run part last first drains losses = record { run = run; part = part; last = last; first_epoch = first; drains = drains; losses = losses }
-
-    segment_parts : {r1 r2 p1 p2 : ℕ} {l1 l2 : Bool} {f1 f2 : ℕ} {d1 d2 : List Drained} {x1 x2 : List (List Loss)} → r1 ≡ r2 → p1 ≡ p2 → l1 ≡ l2 → f1 ≡ f2 → d1 ≡ d2 → x1 ≡ x2
-        → segment_with r1 p1 l1 f1 d1 x1 ≡ segment_with r2 p2 l2 f2 d2 x2
-    segment_parts r p l f d x = λ i. segment_with (r i) (p i) (l i) (f i) (d i) (x i)
-
-    part_with : List (List ℕ) → List Record → ℕ → Segment → Part
-    part_with images records epoch segment = record { images = images; records = records; head = replay.daemon.head; epoch = epoch; segment = segment }
-
-    whole_part : {i1 i2 : List (List ℕ)} {r1 r2 : List Record} {e1 e2 : ℕ} {s1 s2 : Segment} → i1 ≡ i2 → r1 ≡ r2 → e1 ≡ e2 → s1 ≡ s2 → part_with i1 r1 e1 s1 ≡ part_with i2 r2 e2 s2
-    whole_part images records epoch segment = λ i. part_with (images i) (records i) (epoch i) (segment i)
-
     -- all records that end a part
     taken_whole : (records : List Record) (n : ℕ) → n ≡ last_part records → take n (filter ends_part records) ≡ filter ends_part records
     taken_whole records n is = take_all (filter ends_part records) n (omega (arith, length-filter ends_part records, is))

@@ -1,5 +1,5 @@
 -- A replay before its first step stands where the run stands, and the store is as it was.
-use Rattle.std.proofs.Common.{◌≡◌, refl, sym, ◌∙◌, ap, subst, ℕ, suc, ◌+◌, List, [], ◌∷◌, length, arith, Some, Option}
+use Rattle.std.proofs.Common.{◌≡◌, refl, sym, ◌∙◌, ap, subst, ℕ, ◌+◌, List, [], ◌∷◌, length, arith, Some, Option}
 use Rattle.std.specs.Prelude.{map, replicate}
 use Rattle.std.specs.List.{range_with_len}
 use Rattle.std.proofs.lemmas.List.FromFn.{length-map-range_with_len}
@@ -23,6 +23,7 @@ use Rattle.replay_drive.specs.Growing.{KeepsParts, KeepsStore}
 use Rattle.replay_drive.specs.Replaying.{IsStored}
 use Rattle.replay_drive.specs.declared.replays.Replay.{Replay}
 use Rattle.replay_drive.proofs.Among.{as_many}
+use Rattle.replay_drive.proofs.StepsTaken.{sides_count}
 use Rattle.replay_drive.proofs.StoreKept.{store_starts}
 
 -- the daemon's half of each is new
@@ -64,12 +65,6 @@ all_agree counts (s ∷ ss) new = (
   subst (λ (f : FarSide). Agrees (flush_before 0) no_flush f) (sym new.0) (counts.starts 0 (Some none_given)),
   all_agree counts ss new.1,
 )
-
-sides_count : (ls : List Seen) (ss : List Plain) → length ls ≡ length ss → length (processors_of ls ss) ≡ length ss
-sides_count [] [] same = refl
-sides_count [] (s ∷ ss) same = absurd (omega (arith, same))
-sides_count (l ∷ ls) [] same = refl
-sides_count (l ∷ ls) (s ∷ ss) same = ap suc (sides_count ls ss (omega (arith, same)))
 
 -- new players and a new daemon stand at the start of the run
 stands_new : CountsAgree → (trace : Recording) (begin : Head) (lanes : List Seen) (sides : List Plain) → AllStart Free trace trace.cpus lanes sides

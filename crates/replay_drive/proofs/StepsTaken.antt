@@ -228,7 +228,7 @@ evenly (suc (suc cell)) fixed side odd = λ e. absurd cc
 
 -- ---- an advance
 
-sides_count : (ls : List Seen) (ss : List Plain) → length ls ≡ length ss → length (processors_of ls ss) ≡ length ss
+pub sides_count : (ls : List Seen) (ss : List Plain) → length ls ≡ length ss → length (processors_of ls ss) ≡ length ss
 sides_count [] [] same = refl
 sides_count [] (s ∷ ss) same = absurd (omega (arith, same))
 sides_count (l ∷ ls) [] same = refl
