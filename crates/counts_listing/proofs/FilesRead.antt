@@ -1,6 +1,6 @@
 -- Files read one after the other: what was read so far, and the first bad one.
 use Rattle.std.proofs.Common.{◌≡◌, ℕ, ◌+◌, ◌<◌, ◌≤◌, Bool, true, false, cond, List, [], ◌∷◌, ◌++◌, map, None, Some, Option, length, drop, get_or, refl, sym, ap, ◌∙◌}
-use Rattle.std.proofs.lemmas.List.{append_assoc, append-nil, at_drop_more, at_drop_all}
+use Rattle.std.proofs.lemmas.List.{append_assoc, append-nil, at_drop_all}
 use Rattle.store_io.specs.Files.{Files}
 use Rattle.store_io.specs.declared.file_refs.FileRef.{FileRef}
 use Rattle.database_model.specs.declared.profiles.ProfileRow.{ProfileRow}
@@ -8,6 +8,7 @@ use Rattle.database_state.specs.declared.faults.DbFault.{DbFault}
 use Rattle.dcpiprof_report.specs.Reading.{is_bad, first_bad, IsStopped}
 use Rattle.dcpiprof_report.specs.Sums.{bad_one, told_rows}
 use Rattle.dcpiprof_report.proofs.Taken.{stopped_on}
+use Rattle.dcpiprof_report.proofs.Taken.{next_row}
 use Rattle.counts_listing.specs.Sections.{all_told}
 
 none_then : (b : Bool) (file : FileRef) (rest : Option FileRef) → cond b (Some file) None ≡ None → cond b (Some file) rest ≡ rest
@@ -25,9 +26,6 @@ pub record ReadSoFar {R : Type 0} (files : Files) (ref : R → FileRef) (rows : 
 
 pub none_read : {R : Type 0} (files : Files) (ref : R → FileRef) (rows : List R) (profiles : List (List ProfileRow)) → profiles ≡ [] → ReadSoFar files ref rows 0 profiles
 none_read files ref rows profiles none = record { first = refl; read = rw none refl }
-
-next_row : {R Y : Type 0} (F : List R → Y) (rows : List R) (row : R) (i : ℕ) → i < length rows → row ≡ get_or rows i row → F (drop i rows) ≡ F (row ∷ drop (i + 1) rows)
-next_row {R} F rows row i within here = at_drop_more F rows i row within ∙ ap (λ (x : R). F (x ∷ drop (i + 1) rows)) (sym here)
 
 pub one_read : {R : Type 0} (files : Files) (ref : R → FileRef) (rows : List R) (row : R) (i : ℕ) (profiles : List (List ProfileRow)) (profile : List ProfileRow) → i < length rows → row ≡ get_or rows i row → ReadSoFar files ref rows i profiles
     → bad_one files (ref row) ≡ None → told_rows files (ref row) ≡ profile → ReadSoFar files ref rows (i + 1) (profiles ++ profile ∷ [])

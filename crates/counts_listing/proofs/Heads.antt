@@ -1,9 +1,9 @@
 -- What is known of the rows and the images of a head.
 use Rattle.std.proofs.Common.{arith, ◌≡◌, ℕ, zero, suc, ◌<◌, ◌≤◌, ◌&&◌, Bool, true, false, eqb, List, [], ◌∷◌, None, Some, length, get_or, refl, sym, ap, ◌∙◌, subst, ⊎_elim}
 use Rattle.std.specs.Prelude.{nat_le, nat_lt}
-use Rattle.std.specs.List.{AllByRecursion, IsDistinct, list_all, list_any}
+use Rattle.std.specs.List.{AllByRecursion, IsDistinct, list_all}
 use Rattle.std.specs.Str.{bytes_eq}
-use Rattle.std.proofs.lemmas.Bool.{cases_eq, cases_lt, and_parts, or_parts}
+use Rattle.std.proofs.lemmas.Bool.{cases_eq, cases_lt, and_parts}
 use Rattle.std.proofs.lemmas.Cmp.{nat_list_eq_equiv}
 use Rattle.std.proofs.lemmas.List.Elements.{All-from_recursion}
 use Rattle.std.proofs.lemmas.List.Quantifiers.{position-Some}
@@ -18,6 +18,7 @@ use Rattle.database_state.specs.declared.rows.UnknownRow.{UnknownRow}
 use Rattle.database_state.specs.Rows.{known_before, unknown_before, is_rising, is_known_row, is_unknown_row}
 use Rattle.database_state.specs.Heads.{Head, is_in_range, row_count, empty_head}
 use Rattle.database_state.specs.Standing.{HaveHead}
+use Rattle.dcpiprof_report.proofs.Sites.{last_four, none_at}
 use Rattle.counts_listing.specs.Sections.{event_at}
 
 -- ---- ranges
@@ -72,16 +73,6 @@ pub record Sound (head : Head) : Type 0 where
   pub unknown : AllByRecursion (λ (row : UnknownRow). row.event ≤ 3) head.unknown
   pub images : IsDistinct bytes_eq head.names
 
-last_four : (a b c d e f g : Bool) → (a && b && c && d && e && f && g) ≡ true → (d ≡ true) × (e ≡ true) × (f ≡ true) × (g ≡ true)
-last_four true true true true true true true h = (refl, refl, refl, refl)
-last_four true true true true true true false h = cc
-last_four true true true true true false g h = cc
-last_four true true true true false f g h = cc
-last_four true true true false e f g h = cc
-last_four true true false d e f g h = cc
-last_four true false c d e f g h = cc
-last_four false b c d e f g h = cc
-
 no_images : IsDistinct bytes_eq empty_head.names
 unfolding IsDistinct
 no_images = tt
@@ -109,12 +100,6 @@ sound files head have range =
 
 -- ---- the names of images
 
-not_both : {P : Type 0} (b : Bool) → b ≡ true → b ≡ false → P
-not_both b one other = absurd (wrong (sym one ∙ other))
-  where
-    wrong : true ≡ false → ⊥
-    wrong h = cc
-
 -- names of two numbers are the same exactly where the numbers are
 pub names_same : (names : List (List ℕ)) (a b : ℕ) → IsDistinct bytes_eq names → a < length names → b < length names → bytes_eq (text_at names a) (text_at names b) ≡ eqb a b
 names_same names a b apart first second = ⊎_elim
@@ -133,11 +118,6 @@ is_named names name n m apart place within =
     let found = position-Some (λ held. bytes_eq held name) names n [] place in
     let is : text_at names n ≡ name = (bytes_eq-Decides (text_at names n) name).0 found.1 in
     ap (λ (x : List ℕ). bytes_eq x (text_at names m)) (sym is) ∙ names_same names n m apart found.0 within
-
-none_at : {X : Type 0} (p : X → Bool) (xs : List X) (m : ℕ) (d : X) → list_any p xs ≡ false → m < length xs → p (get_or xs m d) ≡ false
-none_at p [] m d none within = absurd (omega arith)
-none_at p (x ∷ xs) zero d none within = (or_parts (p x) (list_any p xs) none).0
-none_at p (x ∷ xs) (suc m) d none within = none_at p xs m d (or_parts (p x) (list_any p xs) none).1 (omega arith)
 
 -- a name that has no number is that of no image
 pub not_named : (names : List (List ℕ)) (name : List ℕ) (m : ℕ) → place_of name names ≡ None → m < length names → bytes_eq name (text_at names m) ≡ false

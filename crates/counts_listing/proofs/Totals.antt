@@ -19,10 +19,12 @@ use Rattle.database_state.specs.Heads.{Head}
 use Rattle.database_state.specs.Updates.{at_image}
 use Rattle.database_state.specs.Standing.{database_of, known_at, unknown_at}
 use Rattle.epoch_store.specs.Orders.{IsOrder}
-use Rattle.epoch_store.proofs.Order.{none_before, and_first, and_second}
+use Rattle.epoch_store.proofs.Order.{and_first, and_second}
 use Rattle.epoch_store.proofs.RowOrders.{known_order, unknown_order}
 use Rattle.dcpiprof_report.specs.Counting.{rows_or_none}
 use Rattle.dcpiprof_report.specs.Sums.{told_rows}
+use Rattle.dcpiprof_report.proofs.EpochSums.{first_or}
+use Rattle.dcpiprof_report.proofs.Sites.{find_later}
 use Rattle.direct_counts.specs.Sites.{counted_at, total_at}
 use Rattle.direct_counts.proofs.Order.{both_same}
 use Rattle.counts_listing.specs.Counting.{AreCountsIn, count_in, sum_at}
@@ -43,15 +45,6 @@ pub moved_total : (spot : Spot) (sections sorted : List Section) → IsPermutati
 moved_total spot sections sorted moved = flat_total spot sorted ∙ sum_by-IsPermutation (λ (section : Section). total_at spot (section_rows section)) sections sorted moved
 
 -- ---- the row of a place, as a sum over rows
-
-first_or : {R : Type 0} (F : Option R → ℕ) (row : R) (others : Option R) (b : Bool) → F None ≡ 0 → (b ≡ true → others ≡ None) → F (cond b (Some row) others) ≡ cond b (F (Some row)) 0 + F others
-first_or F row others true none apart = let gone : F others ≡ 0 = ap F (apart refl) ∙ none in omega arith
-first_or F row others false none apart = omega arith
-
-find_later : {R : Type 0} {before same : R → R → Bool} → IsOrder before same → (p x : R) (rows : List R) → same p x ≡ true → is_before_first before x rows ≡ true → is_rising before rows ≡ true → find (same p) rows ≡ None
-find_later {R} {before} {same} order p x rows is first rising =
-    let tests : same p ≡ same x = λ i y. order.joins p x y is i in
-    ap (λ (t : R → Bool). find t rows) tests ∙ none_before order x rows first rising
 
 -- what is found for a place is what each row of it gives
 pub found_sum : {R : Type 0} {before same : R → R → Bool} → IsOrder before same → (p : R) (F : Option R → ℕ) (rows : List R) → F None ≡ 0 → is_rising before rows ≡ true → F (find (same p) rows) ≡ sum_by (λ row. cond (same p row) (F (Some row)) 0) rows

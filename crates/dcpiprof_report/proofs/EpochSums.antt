@@ -66,7 +66,8 @@ abbrev pub AreApart : {R : Type 0} → (ℕ → R → Bool) → List R → Type 
 AreApart same [] = Unit {0}
 AreApart same (row ∷ rows) = ((e : ℕ) → same e row ≡ true → find (same e) rows ≡ None) × AreApart same rows
 
-first_or : {R : Type 0} (F : Option R → ℕ) (row : R) (others : Option R) (b : Bool) → F None ≡ 0 → (b ≡ true → others ≡ None) → F (cond b (Some row) others) ≡ cond b (F (Some row)) 0 + F others
+-- what is found, as what the first row gives and what is found behind it
+pub first_or : {R : Type 0} (F : Option R → ℕ) (row : R) (others : Option R) (b : Bool) → F None ≡ 0 → (b ≡ true → others ≡ None) → F (cond b (Some row) others) ≡ cond b (F (Some row)) 0 + F others
 first_or F row others true none apart = let gone : F others ≡ 0 = ap F (apart refl) ∙ none in omega arith
 first_or F row others false none apart = omega arith
 

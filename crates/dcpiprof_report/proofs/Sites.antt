@@ -90,7 +90,7 @@ other_counts_none label symbols image rows apart =
 
 -- ---- the numbers of images
 
-none_at : {X : Type 0} (p : X → Bool) (xs : List X) (m : ℕ) (d : X) → list_any p xs ≡ false → m < length xs → p (get_or xs m d) ≡ false
+pub none_at : {X : Type 0} (p : X → Bool) (xs : List X) (m : ℕ) (d : X) → list_any p xs ≡ false → m < length xs → p (get_or xs m d) ≡ false
 none_at p [] m d none within = absurd (omega arith)
 none_at p (x ∷ xs) zero d none within = (or_parts (p x) (list_any p xs) none).0
 none_at p (x ∷ xs) (suc m) d none within = none_at p xs m d (or_parts (p x) (list_any p xs) none).1 (omega arith)
@@ -133,7 +133,7 @@ is_named names name n m apart place within =
 -- ---- rows of a head
 
 -- the row of a place is the first one of it
-find_later : {R : Type 0} {before same : R → R → Bool} → IsOrder before same → (p x : R) (rows : List R) → same p x ≡ true → is_before_first before x rows ≡ true → is_rising before rows ≡ true → find (same p) rows ≡ None
+pub find_later : {R : Type 0} {before same : R → R → Bool} → IsOrder before same → (p x : R) (rows : List R) → same p x ≡ true → is_before_first before x rows ≡ true → is_rising before rows ≡ true → find (same p) rows ≡ None
 find_later {R} {before} {same} order p x rows is first rising =
     let tests : same p ≡ same x = λ i y. order.joins p x y is i in
     ap (λ (t : R → Bool). find t rows) tests ∙ none_before order x rows first rising
@@ -208,7 +208,8 @@ empty_sound : Sound empty_head
 unfolding IsDistinct
 empty_sound = record { known_rising = refl; unknown_rising = refl; known_within = tt; unknown_within = tt; images = tt }
 
-last_four : (a b c d e f g : Bool) → (a && b && c && d && e && f && g) ≡ true → (d ≡ true) × (e ≡ true) × (f ≡ true) × (g ≡ true)
+-- seven tests hold, so the last four do
+pub last_four : (a b c d e f g : Bool) → (a && b && c && d && e && f && g) ≡ true → (d ≡ true) × (e ≡ true) × (f ≡ true) × (g ≡ true)
 last_four true true true true true true true h = (refl, refl, refl, refl)
 last_four true true true true true true false h = cc
 last_four true true true true true false g h = cc

@@ -146,7 +146,7 @@ pub record Told {R : Type 0} (files : Files) (ref : R → FileRef) (test : R →
 pub none_read : {R : Type 0} (files : Files) (ref : R → FileRef) (test : R → Bool) (count : (Label → Bool) → R → ℕ) (rows : List R) (start : List (Label × ℕ)) → Told files ref test count rows 0 start start
 none_read files ref test count rows start = record { first = refl; sums = λ t ties. refl }
 
-next_row : {R Y : Type 0} (F : List R → Y) (rows : List R) (row : R) (i : ℕ) → i < length rows → row ≡ get_or rows i row → F (drop i rows) ≡ F (row ∷ drop (i + 1) rows)
+pub next_row : {R Y : Type 0} (F : List R → Y) (rows : List R) (row : R) (i : ℕ) → i < length rows → row ≡ get_or rows i row → F (drop i rows) ≡ F (row ∷ drop (i + 1) rows)
 next_row {R} F rows row i within here = at_drop_more F rows i row within ∙ ap (λ (x : R). F (x ∷ drop (i + 1) rows)) (sym here)
 
 moved : (held_old held_new more rest left all : ℕ) → held_new ≡ held_old + more → left ≡ more + rest → held_old + left ≡ all → held_new + rest ≡ all
