@@ -1,9 +1,8 @@
 -- Part by part, a run adds what all its drains add.
 use Rattle.std.proofs.Common.{arith, ◌≡◌, ℕ, zero, suc, ◌+◌, ◌<◌, ◌||◌, Bool, true, false, cond, eqb, List, [], ◌∷◌, ◌++◌, Option, None, Some, take, drop, refl, sym, ap, ◌∙◌, subst, take-append-drop}
-use Rattle.std.specs.Prelude.{nat_lt, filter, count_by, ◌==◌, if◌then◌else◌}
+use Rattle.std.specs.Prelude.{nat_lt, filter, count_by}
 use Rattle.std.proofs.lemmas.List.Sums.{sum_by-append}
 use Rattle.std.proofs.lemmas.Bool.Decides.{nat_tests}
-use Rattle.trace_model.specs.Attribution.{place_at}
 use Rattle.trace_model.specs.Parts.{ends_part, part_of}
 use Rattle.trace_model.specs.declared.notices.Record.{Record}
 use Rattle.database_model.specs.declared.profiles.ProfileRow.{ProfileRow}
@@ -11,9 +10,10 @@ use Rattle.database_model.specs.Runs.{Drained, Recorded}
 use Rattle.run_model.specs.Shares.{last_part, drains_in_part}
 use Rattle.database_state.specs.Database.{Database}
 use Rattle.database_state.specs.Limits.{IsProfile}
-use Rattle.growth_model.specs.Additions.{known_of, unknown_of, known_drained, unknown_drained, additions_of}
+use Rattle.growth_model.specs.Additions.{known_drained, unknown_drained, additions_of}
 use Rattle.growth_model.specs.Growth.{IsGrown}
 use Rattle.growth_model.specs.Grown.{part_count, GrowsTo, GrownWhole}
+use Rattle.growth_model.proofs.Weights.{total, lt_suc, not_both, none_first, known_weight, known_total, unknown_weight, unknown_total}
 use Rattle.growth_laws.specs.Whole.{HasProfiles, CountsGrow}
 
 -- ---- the drains of the first parts
@@ -24,12 +24,6 @@ in_first records parts d = nat_lt (part_of records d.at) parts
 abbrev first_drains : List Record → ℕ → List Drained → List Drained
 first_drains records parts drains = filter (in_first records parts) drains
 
-lt_suc : (p k : ℕ) → nat_lt p (suc k) ≡ (nat_lt p k || eqb p k)
-lt_suc p k = grind (arith, nat_tests)
-
-not_both : (p k : ℕ) → nat_lt p k ≡ true → eqb p k ≡ true → ⊥
-not_both p k less same = grind (arith, nat_tests)
-
 step : (t u : Bool) (x a b c : ℕ) → (t ≡ true → u ≡ true → ⊥) → c ≡ a + b → cond (t || u) (x + c) c ≡ cond t (x + a) a + cond u (x + b) b
 step true true x a b c apart sum = absurd (apart refl refl)
 step true false x a b c apart sum = omega (arith, sum)
@@ -38,40 +32,33 @@ step false false x a b c apart sum = sum
 
 -- any count of drains, each by itself
 module _ (weigh : Drained → ℕ) where
-  total : List Drained → ℕ
-  total [] = 0
-  total (d ∷ drains) = weigh d + total drains
-
-  over_cond : (b : Bool) (d : Drained) (l : List Drained) → total (cond b (d ∷ l) l) ≡ cond b (weigh d + total l) (total l)
+  over_cond : (b : Bool) (d : Drained) (l : List Drained) → total weigh (cond b (d ∷ l) l) ≡ cond b (weigh d + total weigh l) (total weigh l)
   unfolding total
   over_cond true d l = refl
   over_cond false d l = refl
 
-  more_parts : (records : List Record) (k : ℕ) (drains : List Drained) → total (first_drains records (suc k) drains) ≡ total (first_drains records k drains) + total (drains_in_part records k drains)
+  more_parts : (records : List Record) (k : ℕ) (drains : List Drained) → total weigh (first_drains records (suc k) drains) ≡ total weigh (first_drains records k drains) + total weigh (drains_in_part records k drains)
   unfolding total
   more_parts records k [] = refl
   more_parts records k (d ∷ drains) =
       let p = part_of records d.at in
       over_cond (nat_lt p (suc k)) d (first_drains records (suc k) drains)
-      ∙ ap (λ (b : Bool). cond b (weigh d + total (first_drains records (suc k) drains)) (total (first_drains records (suc k) drains))) (lt_suc p k)
-      ∙ step (nat_lt p k) (eqb p k) (weigh d) (total (first_drains records k drains)) (total (drains_in_part records k drains)) (total (first_drains records (suc k) drains)) (not_both p k) (more_parts records k drains)
-      ∙ ap (λ (n : ℕ). n + cond (eqb p k) (weigh d + total (drains_in_part records k drains)) (total (drains_in_part records k drains))) (sym (over_cond (nat_lt p k) d (first_drains records k drains)))
-      ∙ ap (λ (n : ℕ). total (first_drains records k (d ∷ drains)) + n) (sym (over_cond (eqb p k) d (drains_in_part records k drains)))
+      ∙ ap (λ (b : Bool). cond b (weigh d + total weigh (first_drains records (suc k) drains)) (total weigh (first_drains records (suc k) drains))) (lt_suc p k)
+      ∙ step (nat_lt p k) (eqb p k) (weigh d) (total weigh (first_drains records k drains)) (total weigh (drains_in_part records k drains)) (total weigh (first_drains records (suc k) drains)) (not_both p k) (more_parts records k drains)
+      ∙ ap (λ (n : ℕ). n + cond (eqb p k) (weigh d + total weigh (drains_in_part records k drains)) (total weigh (drains_in_part records k drains))) (sym (over_cond (nat_lt p k) d (first_drains records k drains)))
+      ∙ ap (λ (n : ℕ). total weigh (first_drains records k (d ∷ drains)) + n) (sym (over_cond (eqb p k) d (drains_in_part records k drains)))
 
-  no_parts : (records : List Record) (drains : List Drained) → total (first_drains records 0 drains) ≡ 0
+  no_parts : (records : List Record) (drains : List Drained) → total weigh (first_drains records 0 drains) ≡ 0
   unfolding total
   no_parts records [] = refl
-  no_parts records (d ∷ drains) = ap (λ (b : Bool). total (cond b (d ∷ first_drains records 0 drains) (first_drains records 0 drains))) (none (part_of records d.at)) ∙ no_parts records drains
-    where
-      none : (p : ℕ) → nat_lt p 0 ≡ false
-      none p = grind (arith, nat_tests)
+  no_parts records (d ∷ drains) = ap (λ (b : Bool). total weigh (cond b (d ∷ first_drains records 0 drains) (first_drains records 0 drains))) (none_first (part_of records d.at)) ∙ no_parts records drains
 
-  all_parts : (records : List Record) (parts : ℕ) (drains : List Drained) → ((d : Drained) → in_first records parts d ≡ true) → total (first_drains records parts drains) ≡ total drains
+  all_parts : (records : List Record) (parts : ℕ) (drains : List Drained) → ((d : Drained) → in_first records parts d ≡ true) → total weigh (first_drains records parts drains) ≡ total weigh drains
   unfolding total
   all_parts records parts [] each = refl
   all_parts records parts (d ∷ drains) each =
       over_cond (in_first records parts d) d (first_drains records parts drains)
-      ∙ ap (λ (b : Bool). cond b (weigh d + total (first_drains records parts drains)) (total (first_drains records parts drains))) (each d)
+      ∙ ap (λ (b : Bool). cond b (weigh d + total weigh (first_drains records parts drains)) (total weigh (first_drains records parts drains))) (each d)
       ∙ ap (λ (n : ℕ). weigh d + n) (all_parts records parts drains each)
 
 -- each drain is of one of the parts
@@ -84,24 +71,6 @@ part_within records at =
   where
     lt_true : (a b : ℕ) → a < b → nat_lt a b ≡ true
     lt_true a b less = grind (arith, nat_tests)
-
--- ---- what drains add, as a count of each
-
-known_weight : List (List ℕ) → List Record → ℕ → List ℕ → ℕ → ℕ → Drained → ℕ
-known_weight images records e name v o d = if e == d.epoch then known_of images (place_at records d.at) name v o d.batch.entries else 0
-
-known_total : (images : List (List ℕ)) (records : List Record) (e : ℕ) (name : List ℕ) (v o : ℕ) (drains : List Drained) → known_drained images records e name v o drains ≡ total (known_weight images records e name v o) drains
-unfolding total known_weight
-known_total images records e name v o [] = refl
-known_total images records e name v o (d ∷ drains) = ap (λ (n : ℕ). (if e == d.epoch then known_of images (place_at records d.at) name v o d.batch.entries else 0) + n) (known_total images records e name v o drains)
-
-unknown_weight : List Record → ℕ → ℕ → ℕ → Drained → ℕ
-unknown_weight records e v pc d = if e == d.epoch then unknown_of (place_at records d.at) v pc d.batch.entries else 0
-
-unknown_total : (records : List Record) (e v pc : ℕ) (drains : List Drained) → unknown_drained records e v pc drains ≡ total (unknown_weight records e v pc) drains
-unfolding total unknown_weight
-unknown_total records e v pc [] = refl
-unknown_total records e v pc (d ∷ drains) = ap (λ (n : ℕ). (if e == d.epoch then unknown_of (place_at records d.at) v pc d.batch.entries else 0) + n) (unknown_total records e v pc drains)
 
 -- ---- growing again
 

@@ -6,6 +6,7 @@ pub mod Places
 pub mod HeadRows
 pub mod Rows
 pub mod TwoEpochs
+pub mod Weights
 mod TwoHeads
 mod Nothing
 mod WrongGrowths

@@ -1,7 +1,8 @@
 -- Rising rows are fixed by what is found at each place.
-use Rattle.std.proofs.Common.{arith, ◌≡◌, ◌⊎◌, inl, inr, Bool, true, false, ◌&&◌, List, [], ◌∷◌, None, Some, refl, sym, ap, ◌∙◌}
+use Rattle.std.proofs.Common.{arith, ◌≡◌, ◌⊎◌, inl, inr, Bool, true, false, List, [], ◌∷◌, None, Some, refl, sym, ap, ◌∙◌}
 use Rattle.std.specs.Prelude.{find}
 use Rattle.std.proofs.lemmas.Grind.{common_steps}
+use Rattle.store_io.proofs.History.{and_first, and_second}
 use Rattle.database_state.specs.Rows.{known_before, known_same, unknown_before, unknown_same, is_before_first, is_rising}
 
 -- how the order of rows and their places go together
@@ -29,14 +30,6 @@ unknown_places = record {
   other = λ a b no apart. grind (arith, common_steps);
   joins = λ a b c same. grind (arith, common_steps);
 }
-
-and_first : (a b : Bool) → (a && b) ≡ true → a ≡ true
-and_first true b h = refl
-and_first false b h = h
-
-and_second : (a b : Bool) → (a && b) ≡ true → b ≡ true
-and_second true b h = h
-and_second false b h = cc
 
 cases : (b : Bool) → (b ≡ true) ⊎ (b ≡ false)
 cases true = inl refl

@@ -1,8 +1,8 @@
 -- The place of an address has an offset that is a multiple of 4 and not above the address.
-use Rattle.std.proofs.Common.{◌≡◌, ℕ, zero, suc, ◌-◌, ◌%◌, ◌≤◌, ◌&&◌, Bool, true, false, List, [], ◌∷◌, ◌++◌, reverse, take, sym, subst, arith, Option, Some, None, eqb}
+use Rattle.std.proofs.Common.{◌≡◌, ℕ, ◌-◌, ◌%◌, ◌≤◌, ◌&&◌, Bool, true, false, List, [], ◌∷◌, reverse, take, arith, Option, Some, None, eqb}
 use Rattle.std.specs.List.{AllByRecursion}
 use Rattle.std.proofs.lemmas.Bool.{cond_both, and_parts, eqb-true, leb-true}
-use Rattle.std.proofs.lemmas.List.{reverse-append}
+use Rattle.text_num.proofs.Lists.{all_first, all_reversed}
 use Rattle.trace_model.specs.declared.notices.Record.{Record}
 use Rattle.trace_model.specs.declared.notices.Record.TheVariants.{Scan, Load, Unload, Exec, Exit, Kernel, Drain, Merge, Epoch}
 use Rattle.trace_model.specs.declared.notices.Place.{Place}
@@ -85,19 +85,6 @@ module _ (pc : ℕ) where
     all_kernel_fits : (records : List Record) → AllByRecursion Keeps records → PlaceFits (kernel_place records pc)
     all_kernel_fits [] h = tt
     all_kernel_fits (notice ∷ earlier) h = else_fits (kernel_mapping notice pc) (kernel_place earlier pc) (kernel_fits notice h.0) (all_kernel_fits earlier h.1)
-
-all_push : {A : Type 0} (P : A → Type 0) (xs : List A) (x : A) → AllByRecursion P xs → P x → AllByRecursion P (xs ++ x ∷ [])
-all_push P [] x h p = (p, tt)
-all_push P (y ∷ xs) x h p = (h.0, all_push P xs x h.1 p)
-
-all_reversed : {A : Type 0} (P : A → Type 0) (xs : List A) → AllByRecursion P xs → AllByRecursion P (reverse xs)
-all_reversed P [] h = tt
-all_reversed P (x ∷ xs) h = subst (AllByRecursion P) (sym (reverse-append (x ∷ []) xs)) (all_push P (reverse xs) x (all_reversed P xs h.1) h.0)
-
-all_first : {A : Type 0} (P : A → Type 0) (n : ℕ) (xs : List A) → AllByRecursion P xs → AllByRecursion P (take n xs)
-all_first P zero xs h = tt
-all_first P (suc n) [] h = tt
-all_first P (suc n) (x ∷ xs) h = (h.0, all_first P n xs h.1)
 
 pub place_fits : (pc : ℕ) → pc % 4 ≡ 0 → (records : List Record) (at pid : ℕ) → AllByRecursion Keeps records → PlaceFits pc (place_at records at pid pc)
 place_fits pc aligned records at pid h =

@@ -14,7 +14,8 @@ use Rattle.database_model.specs.Runs.{Drained}
 use Rattle.run_model.specs.Shares.{Share, share_in, is_of, drains_of, batches_in, drained_weight}
 use Rattle.run_model.specs.Validity.{IsOfTrace, AreCountedOnce}
 use Rattle.run_exact.specs.Exact.{counted_where}
-use Rattle.small_runs.proofs.Sharing.{lt_suc, not_both, none_first, one_of}
+use Rattle.growth_model.proofs.Weights.{lt_suc, not_both, none_first}
+use Rattle.small_runs.proofs.Sharing.{one_of}
 use Rattle.run_exact.proofs.Sums.{Respects, sums_agree, counted-append}
 
 -- the entries of drains

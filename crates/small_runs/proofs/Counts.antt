@@ -17,7 +17,8 @@ use Rattle.growth_model.specs.Growth.{count_at, IsCounted, IsNewName}
 use Rattle.growth_model.specs.Grown.{part_count}
 use Rattle.small_runs.specs.Small.{IsSmallRun}
 use Rattle.small_runs.proofs.Profiles.{AreCounts, profile, are_rows, counts_are, is_counted, counted, not_counted}
-use Rattle.small_runs.proofs.Sharing.{upto, at_most_all, one_part, known_weight, known_total, unknown_weight, unknown_total}
+use Rattle.growth_model.proofs.Weights.{known_weight, known_total, unknown_weight, unknown_total}
+use Rattle.small_runs.proofs.Sharing.{upto, at_most_all, one_part}
 
 none_is : {A : Type 0} (o : Option A) → is_none o ≡ true → o ≡ None
 none_is None e = refl
