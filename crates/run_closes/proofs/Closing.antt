@@ -10,7 +10,7 @@ use Rattle.driver_model.specs.Sides.{Slot, Side}
 use Rattle.driver_model.specs.Handover.{FarSlot, FarSide}
 use Rattle.driver_model.specs.Driver.{Setup, Driver}
 use Rattle.driver_model.specs.Invariant.{DriverInvariant, last_answer}
-use Rattle.driver_laws.proofs.Lists.{append-nil}
+use Rattle.driver_laws.proofs.Parts.{each_last}
 use Rattle.database_model.specs.Runs.{Drained}
 use Rattle.run_model.specs.Daemon.{answering, reaches, is_flushed}
 use Rattle.run_model.specs.Running.{setup_of}
@@ -18,11 +18,6 @@ use Rattle.run_model.specs.Shares.{Share, batches_in}
 use Rattle.run_laws.proofs.Draining.{both_parts}
 use Rattle.run_joins.specs.Joins.{AreFirst, IsJoined}
 use Rattle.run_closes.specs.Closes.{WasHandedOver, IsAllTaken, WasClosed}
-
--- the fact of the last element
-each_last : {A : Type 0} (P : List A → A → Type 0) (done xs : List A) (y : A) → EachFrom P done (xs ++ y ∷ []) → P (done ++ xs) y
-each_last {A = A} P done [] y h = subst (λ (z : List A). P z y) (sym (append-nil done)) h.0
-each_last {A = A} P done (x ∷ xs) y h = subst (λ (z : List A). P z y) (append_assoc done (x ∷ []) xs) (each_last P (done ++ x ∷ []) xs y h.1)
 
 -- the answer of the last batch
 last_is : (n : ℕ) (xs : List Sent) (y : Sent) → last_answer n (xs ++ y ∷ []) ≡ y.note.answers
