@@ -15,4 +15,4 @@ mod writing;
 pub use reading::read_trace;
 pub use refusals::{PutError, TraceRefusal};
 pub use trace_model::{Line, Record, Step, Trace, TraceWhy};
-pub use writing::write_trace;
+pub use writing::{text_of, write_trace};

@@ -32,7 +32,8 @@ pub fn write_trace<W: Sink>(alloc: Global, trace: &Trace, sink: &mut W) -> Resul
     Ok(())
 }
 
-fn text_of(alloc: Global, trace: &Trace) -> Result<Vec<u8>, AllocError>
+/// The text of a trace, with the long form of the header.
+pub fn text_of(alloc: Global, trace: &Trace) -> Result<Vec<u8>, AllocError>
     ensures { IfOk result (λ text. text.items ≡ trace_text (recording_of trace.now)) }
 {
     let mut out = Vec::new(alloc);
