@@ -9,7 +9,7 @@ use Rattle.text_num.proofs.Lines.{lines_append}
 use Rattle.text_num.proofs.Lists.{all_append}
 use Rattle.line_reader.specs.declared.faults.Ending.TheVariants as endings
 use Rattle.line_reader.specs.Reading.{ReadsLine}
-use Rattle.line_reader.proofs.Fronts.{taken_front}
+use Rattle.line_reader.proofs.Fronts.{taken_front, at_end}
 use Rattle.symbol_ranges.specs.declared.symbols.Symbol.{Symbol}
 use Rattle.symbol_ranges.specs.declared.symbols.TheConstants.{MOST_LINE_BYTES}
 use Rattle.symbol_ranges.specs.declared.refusals.SymbolWhy.{SymbolWhy}
@@ -73,9 +73,6 @@ went_on a b c x y z v w = record {
   says = said_append x y v.lines w.lines v.says ∙ w.says;
   count_is = omega (arith, length-append v.lines w.lines, v.count_is, w.count_is);
 }
-
-at_end : (new : Option (List ℕ)) (rest : List ℕ) → new ≡ Some rest → IsAtEnd new → rest ≡ []
-at_end new rest e h = subst IsAtEnd e h
 
 whole_text : (bytes taken : List ℕ) (new : Option (List ℕ)) → Consumes (Some bytes) new taken → IsAtEnd new → bytes ≡ taken
 whole_text bytes taken new c h = let f = taken_front bytes taken new c in f.2 ∙ ap (λ l. taken ++ l) (at_end new f.0 f.1 h) ∙ append-nil taken

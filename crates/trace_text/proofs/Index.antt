@@ -6,15 +6,9 @@ use Rattle.std.specs.Ordering.{nat_cmp, is_eq}
 use Rattle.std.specs.Cmp.Lexicographic.{slice_cmp}
 use Rattle.std.proofs.lemmas.Bool.{cases_Bool, or_parts, false≢true}
 use Rattle.std.proofs.lemmas.Map.Text.{is_eq-slice_cmp}
-use Rattle.std.proofs.lemmas.Slice.Eq.{bytes_eq-Decides}
 use Rattle.trace_model.specs.Recording.{name_at, with_name}
+use Rattle.trace_laws.proofs.Images.{same_bytes, bytes_same}
 use Rattle.trace_text.specs.State.{index_from}
-
-pub same_bytes : (xs ys : List ℕ) → bytes_eq xs ys ≡ true → xs ≡ ys
-same_bytes xs ys h = (bytes_eq-Decides xs ys).0 h
-
-pub bytes_same : (xs ys : List ℕ) → xs ≡ ys → bytes_eq xs ys ≡ true
-bytes_same xs ys h = (bytes_eq-Decides xs ys).1 h
 
 pub record IsFound (images : List (List ℕ)) (name : List ℕ) (n i : ℕ) : Type 0 where
   pub at : ℕ

@@ -9,7 +9,7 @@ use Rattle.text_num.proofs.Lines.{lines_append}
 use Rattle.text_num.proofs.Lists.{all_append}
 use Rattle.line_reader.specs.declared.faults.Ending.TheVariants as endings
 use Rattle.line_reader.specs.Reading.{ReadsLine}
-use Rattle.line_reader.proofs.Fronts.{taken_front}
+use Rattle.line_reader.proofs.Fronts.{taken_front, at_end}
 use Rattle.trace_model.specs.declared.reasons.TraceWhy.{TraceWhy}
 use Rattle.trace_model.specs.declared.reasons.TraceWhy.TheVariants.{NoEnd, AfterEnd}
 use Rattle.trace_model.specs.Said.{Said, is_end}
@@ -84,9 +84,6 @@ pub stops_finished : (old new : Option (List ℕ)) (line : List ℕ) (before : L
 stops_finished None new line before k number why e r v = tt
 stops_finished (Some bytes) new line before k number why e r v = let f = taken_front bytes (line ++ 10 ∷ []) new r.2 in
     refused_now bytes before k number why e (Finished line f.0 (r.0, r.1) (f.2 ∙ append_assoc line (10 ∷ []) f.0) v)
-
-at_end : (new : Option (List ℕ)) (rest : List ℕ) → new ≡ Some rest → IsAtEnd new → rest ≡ []
-at_end new rest e h = subst IsAtEnd e h
 
 whole_line : (bytes line : List ℕ) (new : Option (List ℕ)) → Consumes (Some bytes) new line → IsAtEnd new → bytes ≡ line
 whole_line bytes line new c h = let f = taken_front bytes line new c in f.2 ∙ ap (λ l. line ++ l) (at_end new f.0 f.1 h) ∙ append-nil line
