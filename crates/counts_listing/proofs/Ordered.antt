@@ -21,9 +21,9 @@ use Rattle.database_model.specs.Ranges.{AreRows}
 use Rattle.database_state.specs.declared.rows.KnownRow.{KnownRow}
 use Rattle.database_state.specs.declared.rows.UnknownRow.{UnknownRow}
 use Rattle.database_state.specs.Rows.{known_before, unknown_before, is_before_first, is_rising}
-use Rattle.epoch_store.specs.Orders.{IsOrder}
+use Rattle.database_state.specs.Orders.{IsOrder}
 use Rattle.epoch_store.proofs.Order.{and_first, and_second}
-use Rattle.epoch_store.proofs.RowOrders.{known_order, unknown_order}
+use Rattle.database_state.proofs.RowOrders.{known_order, unknown_order}
 use Rattle.direct_counts.proofs.Order.{both_same}
 use Rattle.direct_counts.proofs.Rows.{Leads}
 use Rattle.counts_listing.specs.Sections.{Section, section_at, sections_at, section_cmp, section_rows, event_at, unknown_listed}

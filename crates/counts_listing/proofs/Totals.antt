@@ -18,9 +18,9 @@ use Rattle.database_state.specs.Rows.{known_same, known_place, known_row, known_
 use Rattle.database_state.specs.Heads.{Head}
 use Rattle.database_state.specs.Updates.{at_image}
 use Rattle.database_state.specs.Standing.{database_of, known_at, unknown_at}
-use Rattle.epoch_store.specs.Orders.{IsOrder}
+use Rattle.database_state.specs.Orders.{IsOrder}
 use Rattle.epoch_store.proofs.Order.{and_first, and_second}
-use Rattle.epoch_store.proofs.RowOrders.{known_order, unknown_order}
+use Rattle.database_state.proofs.RowOrders.{known_order, unknown_order}
 use Rattle.dcpiprof_report.specs.Counting.{rows_or_none}
 use Rattle.dcpiprof_report.specs.Sums.{told_rows}
 use Rattle.dcpiprof_report.proofs.EpochSums.{first_or}

@@ -1,4 +1,5 @@
 pub mod Rows
+pub mod Orders
 pub mod Database
 pub mod Heads
 pub mod Updates

@@ -25,9 +25,9 @@ use Rattle.database_state.specs.Rows.{known_before, known_same, known_place, kno
 use Rattle.database_state.specs.Heads.{Head, IsHead, row_count, empty_head}
 use Rattle.database_state.specs.Updates.{at_image}
 use Rattle.database_state.specs.Standing.{HaveHead, database_of, known_at, unknown_at}
-use Rattle.epoch_store.specs.Orders.{IsOrder}
-use Rattle.epoch_store.proofs.Order.{none_before, and_first, and_second}
-use Rattle.epoch_store.proofs.RowOrders.{known_order, unknown_order}
+use Rattle.database_state.specs.Orders.{IsOrder}
+use Rattle.epoch_store.proofs.Order.{and_first, and_second}
+use Rattle.database_state.proofs.RowOrders.{known_order, none_before, unknown_order}
 use Rattle.report_text.specs.declared.epochs.Epochs.{Epochs}
 use Rattle.report_text.specs.declared.labels.Label.{Label}
 use Rattle.report_text.specs.declared.labels.Label.TheVariants.{Unknown}

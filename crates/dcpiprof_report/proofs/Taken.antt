@@ -17,7 +17,7 @@ use Rattle.database_state.specs.Standing.{value_in}
 use Rattle.database_state.specs.declared.faults.DbFault.{DbFault}
 use Rattle.database_state.specs.declared.faults.DbFault.TheVariants.{StoreFault, Bad, Full, Memory}
 use Rattle.database_state.specs.Rows.{is_rising, is_before_first}
-use Rattle.epoch_store.specs.Orders.{IsOrder}
+use Rattle.database_state.specs.Orders.{IsOrder}
 use Rattle.epoch_store.proofs.Order.{and_first, and_second}
 use Rattle.epoch_store.specs.Reading.{ReadsRow, IsUnread}
 use Rattle.report_text.specs.declared.labels.Label.{Label}

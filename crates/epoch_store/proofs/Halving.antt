@@ -4,8 +4,9 @@ use Rattle.std.specs.Prelude.{find}
 use Rattle.std.specs.List.{AllWithin}
 use Rattle.std.specs.List.Sorted.{IsPartitionedBy}
 use Rattle.database_state.specs.Rows.{is_before_first, is_rising}
-use Rattle.epoch_store.specs.Orders.{IsOrder}
-use Rattle.epoch_store.proofs.Order.{and_first, and_second, none_before}
+use Rattle.database_state.specs.Orders.{IsOrder}
+use Rattle.database_state.proofs.RowOrders.{none_before}
+use Rattle.epoch_store.proofs.Order.{and_first, and_second}
 use Rattle.epoch_store.proofs.Inserting.{rest_at, found_here, found_later, found_nowhere}
 
 clash : (b : Bool) → b ≡ true → b ≡ false → ⊥

@@ -11,7 +11,6 @@ pub mod NextHead
 pub mod Order
 pub mod Parts
 pub mod Phases
-pub mod RowOrders
 pub mod SealNames
 pub mod Sealed
 pub mod Stays

@@ -2,7 +2,8 @@
 use Rattle.std.proofs.Common.{◌≡◌, ℕ, zero, suc, ◌+◌, ◌<◌, ◌≤◌, Bool, true, false, List, [], ◌∷◌, ◌++◌, length, map, drop, get_or, refl, sym, ap, ◌∙◌, append_assoc, drop_of_length-le}
 use Rattle.std.specs.List.{AllByRecursion}
 use Rattle.database_state.specs.Rows.{is_before_first, is_rising, with_row}
-use Rattle.epoch_store.specs.Orders.{IsOrder, with_rows}
+use Rattle.database_state.specs.Orders.{IsOrder}
+use Rattle.epoch_store.specs.Orders.{with_rows}
 use Rattle.epoch_store.proofs.Order.{and_first, and_second, with_each}
 use Rattle.epoch_store.proofs.Halving.{not_of}
 use Rattle.epoch_store.proofs.Inserting.{rest_at}

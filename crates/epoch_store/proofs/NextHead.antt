@@ -11,7 +11,7 @@ use Rattle.database_state.specs.Heads.{Head, IsHead, is_in_range, row_count}
 use Rattle.database_state.specs.Updates.{KnownUpdate, UnknownUpdate, Update, Fits, known_row_of, unknown_row_of, is_known_update, is_unknown_update, known_after, unknown_after, head_after, rows_added}
 use Rattle.head_file.proofs.Limits.{ranges_of, le_of, lt_of}
 use Rattle.epoch_store.proofs.Order.{and_first, and_second, both, rises_each, passes_each, length_each, same_rising}
-use Rattle.epoch_store.proofs.RowOrders.{known_order, unknown_order}
+use Rattle.database_state.proofs.RowOrders.{known_order, unknown_order}
 
 le_true : (a b : ℕ) → a ≤ b → nat_le a b ≡ true
 le_true a b le = grind (arith, common_steps)

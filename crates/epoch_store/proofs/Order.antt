@@ -4,7 +4,8 @@ use Rattle.std.specs.Prelude.{not, is_some, find, fold, count_by}
 use Rattle.std.specs.List.{list_all}
 use Rattle.std.proofs.lemmas.List.Sums.{sum_by-cons}
 pub use Rattle.head_file.proofs.Front.{and_first, and_second, both}
-use Rattle.epoch_store.specs.Orders.{IsOrder}
+use Rattle.database_state.specs.Orders.{IsOrder}
+use Rattle.database_state.proofs.RowOrders.{none_before}
 use Rattle.database_state.specs.Rows.{is_before_first, is_rising, with_row}
 
 pub cases : (b : Bool) → (b ≡ true) ⊎ (b ≡ false)
@@ -59,16 +60,6 @@ find_with {R} {before} {same} order p (x ∷ rows) r = elim (cases (before r x))
         let other : same p r ≡ false = order.joins p x r holds ∙ order.symm x r ∙ apart in
         rw (holds, other) refl
     kept others (inr fails) apart = rw fails others
-
--- no row of a place before the first
-pub none_before : {R : Type 0} {before same : R → R → Bool} → IsOrder before same → (r : R) (rows : List R) → is_before_first before r rows ≡ true → is_rising before rows ≡ true → find (same r) rows ≡ None
-none_before order r [] first rising = refl
-none_before {R} {before} {same} order r (x ∷ rows) first rising =
-    rw (order.apart r x first) (none_before order r rows (next rows (and_first (is_before_first before x rows) (is_rising before rows) rising)) (and_second (is_before_first before x rows) (is_rising before rows) rising))
-  where
-    next : (rows : List R) → is_before_first before x rows ≡ true → is_before_first before r rows ≡ true
-    next [] first' = refl
-    next (y ∷ rows) first' = order.beyond r x y first first'
 
 -- how many rows there are then
 abbrev pub one_or_none : {R : Type 0} → Option R → ℕ

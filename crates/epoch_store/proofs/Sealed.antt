@@ -21,7 +21,7 @@ use Rattle.head_file.proofs.Limits.{ranges_of, le_of, lt_of}
 use Rattle.epoch_store.specs.Puts.{Put, put, puts}
 use Rattle.epoch_store.specs.Commits.{known_name, unknown_name, AreWritten, AreWritesOf}
 use Rattle.epoch_store.proofs.Order.{and_first, and_second, both, cases, or_else, find_each}
-use Rattle.epoch_store.proofs.RowOrders.{known_order, unknown_order}
+use Rattle.database_state.proofs.RowOrders.{known_order, unknown_order}
 use Rattle.database_state.specs.Generations.{FileFits, IsComing}
 use Rattle.database_state.proofs.Names.{one_file, differ}
 use Rattle.epoch_store.proofs.Phases.{puts-append}

@@ -9,7 +9,7 @@ use Rattle.database_state.specs.Rows.{is_before_first, is_rising}
 use Rattle.database_state.specs.Standing.{value_in}
 use Rattle.epoch_store.specs.Puts.{Put, put, puts}
 use Rattle.epoch_store.specs.Commits.{AreWritten}
-use Rattle.epoch_store.specs.Orders.{IsOrder}
+use Rattle.database_state.specs.Orders.{IsOrder}
 use Rattle.epoch_store.proofs.Order.{and_first, and_second, cases, Follow, follow_next}
 use Rattle.epoch_store.proofs.Stays.{with_same, with_other}
 use Rattle.epoch_store.proofs.Values.{tells}

@@ -2,7 +2,7 @@
 ghost use Rattle.std.specs.Prelude.{◌≡◌, ◌≤◌, true, false, length, find};
 ghost use Rattle.std.specs.List.{AllWithin};
 ghost use Rattle.database_state.specs.Rows.{is_rising};
-ghost use Rattle.epoch_store.specs.Orders.{IsOrder};
+ghost use Rattle.database_state.specs.Orders.{IsOrder};
 
 use database_state::Placed;
 

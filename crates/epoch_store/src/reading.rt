@@ -12,7 +12,7 @@ ghost use Rattle.database_state.specs.Rows.{is_rising, known_row, unknown_row};
 ghost use Rattle.database_state.specs.Standing.{value_in, segment_file};
 ghost use Rattle.epoch_store.specs.Faults.{HasDbCause};
 ghost use Rattle.epoch_store.specs.Databases.{head_of};
-ghost use Rattle.epoch_store.specs.Orders.{IsOrder};
+ghost use Rattle.database_state.specs.Orders.{IsOrder};
 ghost use Rattle.epoch_store.specs.Reading.{ReadsAs, Reads, ReadsRow, ReadsKnown, ReadsUnknown};
 
 use crate::database::Database;

@@ -2,7 +2,8 @@
 ghost use Rattle.std.specs.Prelude.{◌≡◌, ◌≤◌, ◌++◌, ◌∷◌, List, true, drop, length, map, IfOk};
 ghost use Rattle.database_state.specs.Rows.{is_rising, known_before, unknown_before};
 ghost use Rattle.database_state.specs.Updates.{known_row_of, unknown_row_of, known_after, unknown_after};
-ghost use Rattle.epoch_store.specs.Orders.{IsOrder, with_rows};
+ghost use Rattle.database_state.specs.Orders.{IsOrder};
+ghost use Rattle.epoch_store.specs.Orders.{with_rows};
 
 use database_state::{KnownFile, KnownRow, Placed, UnknownFile, UnknownRow};
 use std::alloc::{AllocError, Global};

@@ -10,7 +10,8 @@ use Rattle.growth_model.specs.Growth.{IsNewName, IsCounted}
 use Rattle.growth_model.specs.Grown.{epoch_after_parts}
 use Rattle.growth_model.specs.Fitting.{IsCountedAt, RowGrows, known_written, unknown_written, HeadGrows, HeadGrowsTo}
 use Rattle.growth_model.proofs.Determined.{selected_once}
-use Rattle.growth_model.proofs.Places.{known_places, unknown_places, rows_are_found}
+use Rattle.database_state.proofs.RowOrders.{known_order, unknown_order}
+use Rattle.growth_model.proofs.Places.{rows_are_found}
 
 row_once : {R : Type 0} (Is Was : Type 0) (written again : R) (before after other : Option R) → (Is → Was) → (Was → Is)
     → written ≡ again → RowGrows Is written before after → RowGrows Was again before other → after ≡ other
@@ -40,9 +41,9 @@ one_head images added epoch segment head new other a b =
     (unknown_written e event new.generation) (unknown_written e event other.generation)
     (unknown_row head.unknown e event) (unknown_row new.unknown e event) (unknown_row other.unknown e event)
     (λ is. is) (λ is. is) (λ i. unknown_written e event (generation i)) (a.unknown e event) (b.unknown e event) in
-    let known : new.known ≡ other.known = rows_are_found known_before known_same known_places new.known other.known
+    let known : new.known ≡ other.known = rows_are_found known_before known_same known_order new.known other.known
     a.known_order b.known_order (λ p. found p.epoch p.image p.event) in
-    let unknown : new.unknown ≡ other.unknown = rows_are_found unknown_before unknown_same unknown_places new.unknown other.unknown
+    let unknown : new.unknown ≡ other.unknown = rows_are_found unknown_before unknown_same unknown_order new.unknown other.unknown
     a.unknown_order b.unknown_order (λ p. found_unknown p.epoch p.event) in
     λ i. record {
       generation = generation i;

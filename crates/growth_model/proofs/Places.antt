@@ -1,85 +1,46 @@
 -- Rising rows are fixed by what is found at each place.
 use Rattle.std.proofs.Common.{arith, ◌≡◌, ◌⊎◌, inl, inr, Bool, true, false, List, [], ◌∷◌, None, Some, refl, sym, ap, ◌∙◌}
 use Rattle.std.specs.Prelude.{find}
-use Rattle.std.proofs.lemmas.Grind.{common_steps}
 use Rattle.store_io.proofs.History.{and_first, and_second}
-use Rattle.database_state.specs.Rows.{known_before, known_same, unknown_before, unknown_same, is_before_first, is_rising}
-
--- how the order of rows and their places go together
-pub record OrdersPlaces {R : Type 0} (before same : R → R → Bool) : Type 0 where
-  pub own : (a : R) → same a a ≡ true
-  pub apart : (a b : R) → before a b ≡ true → same a b ≡ false
-  pub beyond : (a b c : R) → before a b ≡ true → before b c ≡ true → before a c ≡ true
-  pub other : (a b : R) → before a b ≡ false → same a b ≡ false → before b a ≡ true
-  pub joins : (a b c : R) → same a b ≡ true → same a c ≡ same b c
-
-pub known_places : OrdersPlaces known_before known_same
-known_places = record {
-  own = λ a. grind (arith, common_steps);
-  apart = λ a b before. grind (arith, common_steps);
-  beyond = λ a b c ab bc. grind (arith, common_steps);
-  other = λ a b no apart. grind (arith, common_steps);
-  joins = λ a b c same. grind (arith, common_steps);
-}
-
-pub unknown_places : OrdersPlaces unknown_before unknown_same
-unknown_places = record {
-  own = λ a. grind (arith, common_steps);
-  apart = λ a b before. grind (arith, common_steps);
-  beyond = λ a b c ab bc. grind (arith, common_steps);
-  other = λ a b no apart. grind (arith, common_steps);
-  joins = λ a b c same. grind (arith, common_steps);
-}
+use Rattle.database_state.specs.Orders.{IsOrder}
+use Rattle.database_state.proofs.RowOrders.{none_before}
+use Rattle.database_state.specs.Rows.{is_before_first, is_rising}
 
 cases : (b : Bool) → (b ≡ true) ⊎ (b ≡ false)
 cases true = inl refl
 cases false = inr refl
 
-skipped : {R : Type 0} (before same : R → R → Bool) → OrdersPlaces before same → (r x : R) (rows : List R) → before r x ≡ true
-    → is_before_first before x rows ≡ true → is_before_first before r rows ≡ true
-skipped before same order r x [] first next = refl
-skipped before same order r x (y ∷ rows) first next = order.beyond r x y first next
-
--- behind a row of rising rows its place is not found again
-none_behind : {R : Type 0} (before same : R → R → Bool) → OrdersPlaces before same → (r : R) (rows : List R)
-    → is_before_first before r rows ≡ true → is_rising before rows ≡ true → find (same r) rows ≡ None
-none_behind before same order r [] first rising = refl
-none_behind before same order r (x ∷ rows) first rising =
-    let next = and_first (is_before_first before x rows) (is_rising before rows) rising in
-    let rest = and_second (is_before_first before x rows) (is_rising before rows) rising in
-    rw (order.apart r x first) (none_behind before same order r rows (skipped before same order r x rows first next) rest)
-
 -- rows that rise from a place on do not have an earlier one
-missing : {R : Type 0} (before same : R → R → Bool) → OrdersPlaces before same → (r o : R) (rows others : List R)
+missing : {R : Type 0} (before same : R → R → Bool) → IsOrder before same → (r o : R) (rows others : List R)
     → before r o ≡ true → is_rising before (o ∷ others) ≡ true → find (same r) (r ∷ rows) ≡ find (same r) (o ∷ others) → ⊥
 missing {R} before same order r o rows others earlier rising finds =
     let found : find (same r) (r ∷ rows) ≡ Some r = rw (order.own r) refl in
-    let none : find (same r) (o ∷ others) ≡ None = none_behind before same order r (o ∷ others) earlier rising in
+    let none : find (same r) (o ∷ others) ≡ None = none_before order r (o ∷ others) earlier rising in
     let both : Some r ≡ None = sym found ∙ finds ∙ none in
     absurd (cc)
 
 -- what is found at a place is found at every row of it
-found_alike : {R : Type 0} (before same : R → R → Bool) → OrdersPlaces before same → (p r : R) (rows : List R) → same p r ≡ true
+found_alike : {R : Type 0} (before same : R → R → Bool) → IsOrder before same → (p r : R) (rows : List R) → same p r ≡ true
     → find (same p) rows ≡ find (same r) rows
 found_alike before same order p r rows is = λ i. find (λ c. order.joins p r c is i) rows
 
-tail_finds : {R : Type 0} (before same : R → R → Bool) → OrdersPlaces before same → (r o : R) (rows others : List R) → r ≡ o
+tail_finds : {R : Type 0} (before same : R → R → Bool) → IsOrder before same → (r o : R) (rows others : List R) → r ≡ o
     → is_rising before (r ∷ rows) ≡ true → is_rising before (o ∷ others) ≡ true → (p : R)
     → find (same p) (r ∷ rows) ≡ find (same p) (o ∷ others) → (same p r ≡ true) ⊎ (same p r ≡ false)
     → find (same p) rows ≡ find (same p) others
 tail_finds before same order r o rows others at rise rises p finds (inl is) =
     let is_other : same p o ≡ true = sym (ap (same p) at) ∙ is in
     found_alike before same order p r rows is
-    ∙ none_behind before same order r rows (and_first (is_before_first before r rows) (is_rising before rows) rise)
+    ∙ none_before order r rows (and_first (is_before_first before r rows) (is_rising before rows) rise)
     (and_second (is_before_first before r rows) (is_rising before rows) rise)
-    ∙ sym (none_behind before same order o others (and_first (is_before_first before o others) (is_rising before others) rises)
+    ∙ sym (none_before order o others (and_first (is_before_first before o others) (is_rising before others) rises)
     (and_second (is_before_first before o others) (is_rising before others) rises))
     ∙ sym (found_alike before same order p o others is_other)
 tail_finds before same order r o rows others at rise rises p finds (inr apart) =
     let apart_other : same p o ≡ false = sym (ap (same p) at) ∙ apart in
     rw (apart, apart_other) at finds
 
-joined : {R : Type 0} (before same : R → R → Bool) → OrdersPlaces before same → (r o : R) (rows others : List R)
+joined : {R : Type 0} (before same : R → R → Bool) → IsOrder before same → (r o : R) (rows others : List R)
     → is_rising before (r ∷ rows) ≡ true → is_rising before (o ∷ others) ≡ true → same r o ≡ true
     → ((p : R) → find (same p) (r ∷ rows) ≡ find (same p) (o ∷ others))
     → (((p : R) → find (same p) rows ≡ find (same p) others) → rows ≡ others) → r ∷ rows ≡ o ∷ others
@@ -91,7 +52,7 @@ joined {R} before same order r o rows others rise rises is finds rest =
     let tails : rows ≡ others = rest (λ p. tail_finds before same order r o rows others at rise rises p (finds p) (cases (same p r))) in
     λ i. at i ∷ tails i
 
-pub rows_are_found : {R : Type 0} (before same : R → R → Bool) → OrdersPlaces before same → (rows others : List R)
+pub rows_are_found : {R : Type 0} (before same : R → R → Bool) → IsOrder before same → (rows others : List R)
     → is_rising before rows ≡ true → is_rising before others ≡ true
     → ((p : R) → find (same p) rows ≡ find (same p) others) → rows ≡ others
 rows_are_found before same order [] [] rise rises finds = refl

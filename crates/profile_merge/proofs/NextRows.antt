@@ -17,7 +17,7 @@ use Rattle.database_state.specs.declared.rows.UnknownRow.{UnknownRow}
 use Rattle.database_state.specs.Updates.{KnownUpdate, UnknownUpdate, known_row_of, unknown_row_of, known_in, unknown_in, known_or, unknown_or, head_after}
 use Rattle.head_file.proofs.Limits.{ranges_of}
 use Rattle.epoch_store.proofs.Order.{rises_each, find_each, or_else}
-use Rattle.epoch_store.proofs.RowOrders as orders
+use Rattle.database_state.proofs.RowOrders as orders
 use Rattle.epoch_store.proofs.NextHead.{known_rise, unknown_rise}
 use Rattle.growth_model.specs.Additions.{Additions}
 use Rattle.growth_model.specs.Growth.{IsCounted}

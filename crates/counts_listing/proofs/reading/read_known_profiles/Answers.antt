@@ -7,7 +7,7 @@ use Rattle.sample_key.specs.Events.{code_of}
 use Rattle.database_state.specs.declared.rows.KnownRow.{KnownRow}
 use Rattle.database_state.specs.Rows.{known_row, known_ref}
 use Rattle.epoch_store.specs.Databases.{head_of}
-use Rattle.epoch_store.proofs.RowOrders.{known_order}
+use Rattle.database_state.proofs.RowOrders.{known_order}
 use Rattle.dcpiprof_report.proofs.Taken.{found_here, here_is, read_ok, stopped}
 use Rattle.counts_listing.proofs.FilesRead.{one_read, read_stopped}
 use Rattle.counts_listing.proofs.reading.read_known_profiles.Goals as goal

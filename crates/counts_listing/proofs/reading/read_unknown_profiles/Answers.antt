@@ -7,7 +7,7 @@ use Rattle.sample_key.specs.Events.{code_of}
 use Rattle.database_state.specs.declared.rows.UnknownRow.{UnknownRow}
 use Rattle.database_state.specs.Rows.{unknown_row, unknown_ref}
 use Rattle.epoch_store.specs.Databases.{head_of}
-use Rattle.epoch_store.proofs.RowOrders.{unknown_order}
+use Rattle.database_state.proofs.RowOrders.{unknown_order}
 use Rattle.dcpiprof_report.proofs.Taken.{found_here, here_is, read_ok, stopped}
 use Rattle.counts_listing.proofs.FilesRead.{one_read, read_stopped}
 use Rattle.counts_listing.proofs.reading.read_unknown_profiles.Goals as goal

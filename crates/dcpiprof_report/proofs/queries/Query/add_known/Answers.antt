@@ -7,7 +7,7 @@ use Rattle.sample_key.specs.Events.{code_of}
 use Rattle.database_state.specs.declared.rows.KnownRow.{KnownRow}
 use Rattle.database_state.specs.Rows.{known_row, known_ref}
 use Rattle.epoch_store.specs.Databases.{head_of}
-use Rattle.epoch_store.proofs.RowOrders.{known_order}
+use Rattle.database_state.proofs.RowOrders.{known_order}
 use Rattle.dcpiprof_report.specs.Reading.{is_known_wanted}
 use Rattle.dcpiprof_report.specs.Sums.{known_count}
 use Rattle.dcpiprof_report.proofs.Taken.{found_here, here_is, row_read, row_stopped, all_read}

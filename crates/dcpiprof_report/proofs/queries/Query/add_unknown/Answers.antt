@@ -5,7 +5,7 @@ use Rattle.store_io.proofs.Chains.{reads_then}
 use Rattle.sample_key.specs.Events.{code_of}
 use Rattle.database_state.specs.declared.rows.UnknownRow.{UnknownRow}
 use Rattle.database_state.specs.Rows.{unknown_row, unknown_ref}
-use Rattle.epoch_store.proofs.RowOrders.{unknown_order}
+use Rattle.database_state.proofs.RowOrders.{unknown_order}
 use Rattle.dcpiprof_report.specs.Reading.{is_unknown_wanted}
 use Rattle.dcpiprof_report.specs.Sums.{unknown_count}
 use Rattle.dcpiprof_report.proofs.Taken.{found_here, here_is, row_read, row_stopped, all_read}
