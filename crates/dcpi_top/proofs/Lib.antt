@@ -11,5 +11,6 @@ pub mod Replayed
 pub mod Sound
 pub mod Stopping
 pub mod Telling
+pub mod Tidied
 pub mod Transfers
 pub mod Unprinted

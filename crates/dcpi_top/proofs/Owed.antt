@@ -1,5 +1,5 @@
 -- A refusal that is owed is the one that is answered, but for a fault or want of memory.
-use Rattle.std.proofs.Common.{◌≡◌, ◌≤◌, ◌<◌, ◌⊎◌, inl, inr, ℕ, true, List, refl, sym, subst, ap, ◌∙◌}
+use Rattle.std.proofs.Common.{◌≡◌, ◌⊎◌, inl, inr, ℕ, true, List, refl, sym, subst, ap, ◌∙◌}
 use Rattle.std.specs.declared.option.Option.{Option}
 use Rattle.std.specs.declared.option.Option.TheVariants.{Some, None}
 use Rattle.std.specs.Prelude.{IfSome}
@@ -27,7 +27,7 @@ use Rattle.report_text.specs.declared.epochs.Epochs.{Epochs}
 use Rattle.report_text.specs.declared.epochs.Epochs.TheVariants.{One}
 use Rattle.dcpiprof_report.specs.Reading.{first_bad, wanted}
 use Rattle.dcpi_top.specs.declared.commands.Command.{Command}
-use Rattle.dcpi_top.specs.declared.commands.Command.TheVariants.{Plain, Replay, ProfImage, ProfProcedure, Cat, Runs}
+use Rattle.dcpi_top.specs.declared.commands.Command.TheVariants.{Plain, Replay, ProfImage, ProfProcedure, Cat, Runs, Tidy}
 use Rattle.dcpi_top.specs.declared.refusals.Refusal.{Refusal}
 use Rattle.dcpi_top.specs.declared.refusals.Refusal.TheVariants.{Usage, TraceBad, ReadFault, StoreFault, WriteFault, Memory, DatabaseBad, Full, SymbolBad, NoSuchEpoch}
 use Rattle.dcpi_top.specs.Streams.{Stream, Disk}
@@ -39,7 +39,7 @@ use Rattle.dcpi_top.specs.Owing.{HasToldEpochs, IsFree, IsOwed, IsRefusedAs, IsT
 use Rattle.dcpi_top.specs.Answers.{Serves}
 use Rattle.dcpi_top.proofs.Heading.{good_head, one_bad_head}
 use Rattle.dcpi_top.proofs.KnownLaws.{Known}
-use Rattle.dcpi_top.proofs.Sound.{first_found, images_apart, no_bad_line, no_bad_symbol, no_epoch, not_bad, same_head, same_trace, there_is, whole_found}
+use Rattle.dcpi_top.proofs.Sound.{first_found, images_apart, no_bad_line, no_bad_symbol, no_epoch, not_bad, same_head, same_trace, there_is, told_good, whole_found}
 
 -- how a refusal is owed: no text can be given, and each other cause is none
 by_cause : (command : Command) (input : Stream) (disk : Disk) (output : Stream) (refusal : Option Refusal) (owed : Refusal)
@@ -77,11 +77,7 @@ one_symbol : Known → (o : Option (List ℕ)) (a b : ℕ) (why other : SymbolWh
 one_symbol laws None a b why other bad told = absurd told
 one_symbol laws (Some bytes) a b why other bad told = let same = laws.one_symbol_refusal bytes a b why other bad told in λ i. SymbolBad (same.0 i) (same.1 i)
 
--- a head that is told to be good is not bad, and the other way round
-told_good : (o : Option Files) (h : Head) (file : FileRef) → IfSome o (λ f. IsBadHead f file) → IsTold o (λ f. HaveHead f h) → ⊥
-told_good None h file bad told = told
-told_good (Some f) h file bad told = good_head f h file told bad
-
+-- a head that is told to be bad is not good
 told_bad : (o : Option Files) (h : Head) (file : FileRef) → IfSome o (λ f. HaveHead f h) → IsTold o (λ f. IsBadHead f file) → ⊥
 told_bad None h file good told = told
 told_bad (Some f) h file good told = good_head f h file good told
@@ -104,6 +100,7 @@ trace_text laws (ProfImage epochs event csv) input disk line why reads told text
 trace_text laws (ProfProcedure epochs event csv) input disk line why reads told text is = reads
 trace_text laws Cat input disk line why reads told text is = reads
 trace_text laws Runs input disk line why reads told text is = reads
+trace_text laws Tidy input disk line why reads told text is = reads
 
 trace_plain : Known → (input : Stream) (disk : Disk) (line : ℕ) (why : TraceWhy) → IsToldBad input line why
     → (r : Refusal) → IsCause Plain input disk r → (r ≡ TraceBad line why) ⊎ IsFree r
@@ -142,6 +139,7 @@ trace_cause laws (ProfImage epochs event csv) input disk line why reads begun to
 trace_cause laws (ProfProcedure epochs event csv) input disk line why reads begun told r cause = absurd reads
 trace_cause laws Cat input disk line why reads begun told r cause = absurd reads
 trace_cause laws Runs input disk line why reads begun told r cause = absurd reads
+trace_cause laws Tidy input disk line why reads begun told r cause = absurd reads
 
 -- ---- a bad line of a symbol list
 
@@ -226,6 +224,7 @@ head_text_none (ProfImage epochs event csv) input disk file uses told text is = 
 head_text_none (ProfProcedure epochs event csv) input disk file uses told text is = told_bad disk.old is.head file is.opened told
 head_text_none Cat input disk file uses told text is = told_bad disk.old is.head file is.opened told
 head_text_none Runs input disk file uses told text is = told_bad disk.old is.head file is.opened told
+head_text_none Tidy input disk file uses told text is = told_bad disk.old is.head file is.opened told
 
 -- nothing was read behind it
 no_begun : (command : Command) (disk : Disk) (file : FileRef) → UsesStore command → IsToldBadHead disk file → IsBegun command disk → ⊥
@@ -235,6 +234,7 @@ no_begun (ProfImage epochs event csv) disk file uses told begun = told_bad disk.
 no_begun (ProfProcedure epochs event csv) disk file uses told begun = told_bad disk.old begun.0 file begun.1 told
 no_begun Cat disk file uses told begun = told_bad disk.old begun.0 file begun.1 told
 no_begun Runs disk file uses told begun = told_bad disk.old begun.0 file begun.1 told
+no_begun Tidy disk file uses told begun = told_bad disk.old begun.0 file begun.1 told
 
 no_found : (command : Command) (input : Stream) (disk : Disk) (file other : FileRef) → UsesStore command → IsToldBadHead disk file
     → Rattle.dcpi_top.specs.Causes.FindsBad command input disk other → ⊥
@@ -244,6 +244,7 @@ no_found (ProfImage epochs event csv) input disk file other uses told found = to
 no_found (ProfProcedure epochs event csv) input disk file other uses told found = told_bad disk.old found.1.head file found.1.opened told
 no_found Cat input disk file other uses told found = told_bad disk.old found.head file found.opened told
 no_found Runs input disk file other uses told found = told_bad disk.old found.head file found.opened told
+no_found Tidy input disk file other uses told found = found
 
 no_missing : (command : Command) (disk : Disk) (file : FileRef) (epoch last : ℕ) → UsesStore command → IsToldBadHead disk file
     → Rattle.dcpi_top.specs.Causes.IsMissing command disk epoch last → ⊥
@@ -253,6 +254,7 @@ no_missing (ProfImage epochs event csv) disk file epoch last uses told lacks = t
 no_missing (ProfProcedure epochs event csv) disk file epoch last uses told lacks = told_bad disk.old lacks.head file lacks.opened told
 no_missing Cat disk file epoch last uses told lacks = lacks
 no_missing Runs disk file epoch last uses told lacks = lacks
+no_missing Tidy disk file epoch last uses told lacks = lacks
 
 no_room : (command : Command) (input : Stream) (disk : Disk) (file : FileRef) (what : Rattle.database_state.specs.declared.faults.FullWhat.FullWhat) (held added : ℕ)
     → UsesStore command → IsToldBadHead disk file → Rattle.dcpi_top.specs.Causes.IsFull command input disk what held added → ⊥
@@ -262,6 +264,7 @@ no_room (ProfImage epochs event csv) input disk file what held added uses told f
 no_room (ProfProcedure epochs event csv) input disk file what held added uses told full = full
 no_room Cat input disk file what held added uses told full = full
 no_room Runs input disk file what held added uses told full = full
+no_room Tidy input disk file what held added uses told full = full
 
 head_cause : (command : Command) (input : Stream) (disk : Disk) (file : FileRef) → UsesStore command → IsToldBadHead disk file
     → (r : Refusal) → IsCause command input disk r → (r ≡ DatabaseBad file) ⊎ IsFree r
@@ -433,6 +436,7 @@ owed_full laws (ProfImage epochs event csv) input disk output refusal what held 
 owed_full laws (ProfProcedure epochs event csv) input disk output refusal what held added serves must = absurd must
 owed_full laws Cat input disk output refusal what held added serves must = absurd must
 owed_full laws Runs input disk output refusal what held added serves must = absurd must
+owed_full laws Tidy input disk output refusal what held added serves must = absurd must
 
 -- ---- all of them
 
@@ -449,6 +453,7 @@ owed_file laws Cat input disk output refusal file serves must = by_cause Cat inp
     (λ text is. whole_good laws bad_profile Rattle.counts_listing.specs.Counting.IsTextOf disk file text is must) (cat_file laws input disk file must)
 owed_file laws Runs input disk output refusal file serves must = by_cause Runs input disk output refusal (DatabaseBad file) serves
     (λ text is. whole_good laws bad_segment Rattle.dcpi_top.specs.Listings.IsRunsTextOf disk file text is must) (runs_file laws input disk file must)
+owed_file laws Tidy input disk output refusal file serves must = absurd must
 
 owed_epoch : Known → (command : Command) (input : Stream) (disk : Disk) (output : Stream) (refusal : Option Refusal) (epoch last : ℕ)
     → Serves command input disk output refusal → Rattle.dcpi_top.specs.Owing.IsToldMissing command disk epoch last → IsRefusedAs (NoSuchEpoch epoch last) refusal
@@ -460,6 +465,7 @@ owed_epoch laws (ProfProcedure epochs event csv) input disk output refusal epoch
     (λ text is. told_above laws epochs disk epoch last is.head told is.opened is.there) (procedure_epoch laws epochs event csv input disk epoch last told)
 owed_epoch laws Cat input disk output refusal epoch last serves told = absurd told
 owed_epoch laws Runs input disk output refusal epoch last serves told = absurd told
+owed_epoch laws Tidy input disk output refusal epoch last serves told = absurd told
 
 owed_symbol : Known → (command : Command) (input : Stream) (disk : Disk) (output : Stream) (refusal : Option Refusal) (line : ℕ) (why : SymbolWhy)
     → Serves command input disk output refusal → IsOwed command input disk (SymbolBad line why) → IsRefusedAs (SymbolBad line why) refusal
@@ -470,6 +476,7 @@ owed_symbol laws (ProfProcedure epochs event csv) input disk output refusal line
     (λ text is. no_symbols laws input.old line why is.symbols is.reads owed.2) (symbol_cause laws epochs event csv input disk line why owed.1 owed.2)
 owed_symbol laws Cat input disk output refusal line why serves owed = absurd owed.0
 owed_symbol laws Runs input disk output refusal line why serves owed = absurd owed.0
+owed_symbol laws Tidy input disk output refusal line why serves owed = absurd owed.0
 
 pub owed_is_answered : Known → (command : Command) (input : Stream) (disk : Disk) (output : Stream) (refusal : Option Refusal) (owed : Refusal)
     → Serves command input disk output refusal → IsOwed command input disk owed → IsRefusedAs owed refusal

@@ -8,16 +8,14 @@ use Rattle.store_io.specs.declared.file_refs.FileRef.{FileRef}
 use Rattle.trace_model.specs.declared.reasons.TraceWhy.{TraceWhy}
 use Rattle.trace_model.specs.Grammar.{FirstBad}
 use Rattle.trace_model.specs.Recording.{Recording, Reads, said_in}
-use Rattle.trace_model.specs.Streams.{records_in}
 use Rattle.sample_key.specs.Events.{code_of}
 use Rattle.symbol_ranges.specs.declared.symbols.Symbol.{Symbol}
 use Rattle.symbol_ranges.specs.declared.refusals.SymbolWhy.{SymbolWhy}
 use Rattle.symbol_ranges.specs.Lines as symbols
 use Rattle.database_state.specs.Heads.{Head}
-use Rattle.database_state.specs.Standing.{HaveHead, database_of}
+use Rattle.database_state.specs.Standing.{HaveHead}
 use Rattle.database_state.specs.declared.faults.DbFault.{DbFault}
 use Rattle.database_state.specs.declared.faults.DbFault.TheVariants as faults
-use Rattle.growth_model.specs.Fitting.{KeepsLimits}
 use Rattle.dcpid_core.specs.Storing.{is_found_before}
 use Rattle.dcpid_core.proofs.Images.{apart}
 use Rattle.replay_drive.specs.Growing.{StopsAt}
@@ -25,7 +23,7 @@ use Rattle.report_text.specs.declared.epochs.Epochs.{Epochs}
 use Rattle.report_text.specs.declared.epochs.Epochs.TheVariants.{One}
 use Rattle.dcpiprof_report.specs.Reading.{first_bad, wanted}
 use Rattle.dcpi_top.specs.declared.commands.Command.{Command}
-use Rattle.dcpi_top.specs.declared.commands.Command.TheVariants.{Plain, Replay, ProfImage, ProfProcedure, Cat, Runs}
+use Rattle.dcpi_top.specs.declared.commands.Command.TheVariants.{Plain, Replay, ProfImage, ProfProcedure, Cat, Runs, Tidy}
 use Rattle.dcpi_top.specs.declared.refusals.Refusal.{Refusal}
 use Rattle.dcpi_top.specs.declared.refusals.Refusal.TheVariants.{Usage, TraceBad, ReadFault, StoreFault, WriteFault, Memory, DatabaseBad, Full, SymbolBad, NoSuchEpoch}
 use Rattle.dcpi_top.specs.Refusals.{status_in, status_of}
@@ -71,6 +69,11 @@ same_head laws o f h k opened told has = laws.one_head f h k (of_told o (λ file
 -- a head that is told is not bad
 pub not_bad : (o : Option Files) (f : Files) (h : Head) (file : FileRef) → IfSome o (λ files. IsBadHead files file) → o ≡ Some f → HaveHead f h → ⊥
 not_bad o f h file bad told has = good_head f h file has (of_told o (λ files. IsBadHead files file) f bad told)
+
+-- nor is one of files that are told
+pub told_good : (o : Option Files) (h : Head) (file : FileRef) → IfSome o (λ f. IsBadHead f file) → IsTold o (λ f. HaveHead f h) → ⊥
+told_good None h file bad told = told
+told_good (Some f) h file bad told = good_head f h file told bad
 
 -- an epoch that is there is not above the last one
 pub there_is : (epochs : Epochs) (h k : Head) (epoch last : ℕ) → epochs ≡ One epoch → last ≡ h.epoch → last < epoch → h ≡ k → AreThere epochs k → ⊥
@@ -140,6 +143,10 @@ file_is_good laws Runs input disk file cause sound = elim cause.2 [
   | inl head ↦ no_bad_file laws bad_segment disk file (inl head.bad) sound
   | inr bad ↦ no_bad_file laws bad_segment disk file (inr bad) sound
 ]
+file_is_good laws Tidy input disk file cause sound = elim cause.2 [
+  | inl head ↦ told_good disk.old sound.0 file head.bad sound.1
+  | inr bad ↦ bad
+]
 
 -- the line of a trace is not bad
 line_is_good : Known → (command : Command) (input : Stream) (disk : Disk) (line : ℕ) (why : TraceWhy) → IsCause command input disk (TraceBad line why)
@@ -150,6 +157,7 @@ line_is_good laws (ProfImage epochs event csv) input disk line why cause sound =
 line_is_good laws (ProfProcedure epochs event csv) input disk line why cause sound = cause.0
 line_is_good laws Cat input disk line why cause sound = cause.0
 line_is_good laws Runs input disk line why cause sound = cause.0
+line_is_good laws Tidy input disk line why cause sound = cause.0
 
 -- nor is that of a symbol list
 symbol_is_good : Known → (command : Command) (input : Stream) (disk : Disk) (line : ℕ) (why : SymbolWhy) → IsCause command input disk (SymbolBad line why)
@@ -160,6 +168,7 @@ symbol_is_good laws (ProfImage epochs event csv) input disk line why cause sound
 symbol_is_good laws (ProfProcedure epochs event csv) input disk line why cause sound = no_bad_symbol laws input.old line why sound.0.0 cause.2 sound.0.1
 symbol_is_good laws Cat input disk line why cause sound = cause.0
 symbol_is_good laws Runs input disk line why cause sound = cause.0
+symbol_is_good laws Tidy input disk line why cause sound = cause.0
 
 -- the epoch is there
 epoch_is_there : Known → (command : Command) (input : Stream) (disk : Disk) (epoch last : ℕ) → IsCause command input disk (NoSuchEpoch epoch last)
@@ -170,6 +179,7 @@ epoch_is_there laws (ProfImage epochs event csv) input disk epoch last cause sou
 epoch_is_there laws (ProfProcedure epochs event csv) input disk epoch last cause sound = no_epoch laws epochs (code_of event) disk epoch last None cause.0 sound.1
 epoch_is_there laws Cat input disk epoch last cause sound = cause.0
 epoch_is_there laws Runs input disk epoch last cause sound = cause.0
+epoch_is_there laws Tidy input disk epoch last cause sound = cause.0
 
 -- there is room
 room_is_there : Known → (command : Command) (input : Stream) (disk : Disk) (what : Rattle.database_state.specs.declared.faults.FullWhat.FullWhat) (held added : ℕ)
@@ -180,6 +190,7 @@ room_is_there laws (ProfImage epochs event csv) input disk what held added cause
 room_is_there laws (ProfProcedure epochs event csv) input disk what held added cause sound = cause.1
 room_is_there laws Cat input disk what held added cause sound = cause.1
 room_is_there laws Runs input disk what held added cause sound = cause.1
+room_is_there laws Tidy input disk what held added cause sound = cause.1
 
 -- what was refused has a status of a fault or of memory
 refused_soundly : Known → (command : Command) (input : Stream) (disk : Disk) (refusal : Refusal) → IsCause command input disk refusal → IsSound command input disk

@@ -1,7 +1,7 @@
 -- What each command's text is, and why a command gives none.
 use Rattle.std.specs.Prelude.{◌≡◌, ◌⊎◌, ℕ, ◌<◌, List}
 use Rattle.std.specs.declared.option.Option.{Option}
-use Rattle.std.specs.declared.option.Option.TheVariants.{Some, None}
+use Rattle.std.specs.declared.option.Option.TheVariants.{Some}
 use Rattle.std.specs.declared.result.Result.{Result}
 use Rattle.std.specs.declared.result.Result.TheVariants.{Ok, Err}
 use Rattle.std.specs.Io.KnownBytes.{IsAtEnd}
@@ -16,7 +16,7 @@ use Rattle.report_text.specs.declared.epochs.Epochs.{Epochs}
 use Rattle.report_text.specs.declared.epochs.Epochs.TheVariants.{One}
 use Rattle.dcpiprof_report.specs.Reading.{first_bad, wanted}
 use Rattle.dcpi_top.specs.declared.commands.Command.{Command}
-use Rattle.dcpi_top.specs.declared.commands.Command.TheVariants.{Plain, Replay, ProfImage, ProfProcedure, Cat, Runs}
+use Rattle.dcpi_top.specs.declared.commands.Command.TheVariants.{Plain, Replay, ProfImage, ProfProcedure, Cat, Runs, Tidy}
 use Rattle.dcpi_top.specs.declared.refusals.Refusal.{Refusal}
 use Rattle.dcpi_top.specs.declared.refusals.Refusal.TheVariants.{Usage, TraceBad, ReadFault, StoreFault, WriteFault, Memory, DatabaseBad, Full, SymbolBad, NoSuchEpoch}
 use Rattle.dcpi_top.specs.Streams.{Stream, Disk, KeepsCount, HasFailed, IsUntouched}
@@ -26,6 +26,7 @@ use Rattle.dcpi_top.specs.Plains.{IsPlainTextOf}
 use Rattle.dcpi_top.specs.Replays.{IsReplayText, StopsRun}
 use Rattle.counts_listing.specs.Counting.{IsTextOf}
 use Rattle.dcpi_top.specs.Listings.{IsImageText, IsProcedureText, IsRunsTextOf, IsWholeText, bad_profile, bad_segment}
+use Rattle.dcpi_top.specs.Tidies.{IsTidyText, MayBeTidied}
 
 -- the command reads a trace
 abbrev pub ReadsTrace : Command → Type 0
@@ -35,6 +36,7 @@ ReadsTrace (ProfImage epochs event csv) = ⊥
 ReadsTrace (ProfProcedure epochs event csv) = ⊥
 ReadsTrace Cat = ⊥
 ReadsTrace Runs = ⊥
+ReadsTrace Tidy = ⊥
 
 -- it reads a symbol list
 abbrev pub ReadsSymbols : Command → Type 0
@@ -44,6 +46,7 @@ ReadsSymbols (ProfImage epochs event csv) = ⊥
 ReadsSymbols (ProfProcedure epochs event csv) = Unit {0}
 ReadsSymbols Cat = ⊥
 ReadsSymbols Runs = ⊥
+ReadsSymbols Tidy = ⊥
 
 -- it opens a database
 abbrev pub UsesStore : Command → Type 0
@@ -53,6 +56,7 @@ UsesStore (ProfImage epochs event csv) = Unit {0}
 UsesStore (ProfProcedure epochs event csv) = Unit {0}
 UsesStore Cat = Unit {0}
 UsesStore Runs = Unit {0}
+UsesStore Tidy = Unit {0}
 
 -- a text of `plain`: the input was read to its end
 pub record IsPlainDone (input : Stream) (text : List ℕ) : Type 0 where
@@ -68,13 +72,14 @@ IsText (ProfProcedure epochs event csv) input disk text =
     IsProcedureText epochs event csv input disk text
 IsText Cat input disk text = IsWholeText bad_profile IsTextOf disk text
 IsText Runs input disk text = IsWholeText bad_segment IsRunsTextOf disk text
+IsText Tidy input disk text = IsTidyText disk text
 
 -- the input is not read, and the files stay
 abbrev pub OnlyListsFiles : Stream → Disk → Type 0
 OnlyListsFiles input disk = IsUntouched input × (disk.new ≡ disk.old)
 
 -- What a command leaves as it was, whatever it answers: only a replay changes the database, and only a trace or a symbol list is
--- read from the input.
+-- read from the input. A tidying removes some first of the files that the database does not use, if any.
 abbrev pub LeavesAlone : Command → Stream → Disk → Type 0
 LeavesAlone Plain input disk = IsUntouched disk
 LeavesAlone Replay input disk = Unit {0}
@@ -82,6 +87,7 @@ LeavesAlone (ProfImage epochs event csv) input disk = OnlyListsFiles input disk
 LeavesAlone (ProfProcedure epochs event csv) input disk = disk.new ≡ disk.old
 LeavesAlone Cat input disk = OnlyListsFiles input disk
 LeavesAlone Runs input disk = OnlyListsFiles input disk
+LeavesAlone Tidy input disk = IsUntouched input × MayBeTidied disk
 
 -- the database was opened, and these epochs are there
 abbrev pub HasEpochs : Epochs → Disk → Type 0
@@ -95,6 +101,7 @@ IsBegun (ProfImage epochs event csv) disk = HasEpochs epochs disk
 IsBegun (ProfProcedure epochs event csv) disk = HasEpochs epochs disk
 IsBegun Cat disk = IsOpened disk
 IsBegun Runs disk = IsOpened disk
+IsBegun Tidy disk = IsOpened disk
 
 -- the epoch that is asked for is above the last one
 pub record LacksEpoch (epochs : Epochs) (disk : Disk) (epoch last : ℕ) : Type 0 where
@@ -112,6 +119,7 @@ IsMissing (ProfImage epochs event csv) disk epoch last = LacksEpoch epochs disk 
 IsMissing (ProfProcedure epochs event csv) disk epoch last = LacksEpoch epochs disk epoch last
 IsMissing Cat disk epoch last = ⊥
 IsMissing Runs disk epoch last = ⊥
+IsMissing Tidy disk epoch last = ⊥
 
 -- a file of a row that is wanted is missing or not in its form, and is the first such one
 pub record ReadsBad (epochs : Epochs) (event : ℕ) (disk : Disk) (file : FileRef) : Type 0 where
@@ -142,6 +150,7 @@ FindsBad (ProfProcedure epochs event csv) input disk file =
     HasSymbols input × ReadsBad epochs (code_of event) disk file
 FindsBad Cat input disk file = FindsFirst bad_profile disk file
 FindsBad Runs input disk file = FindsFirst bad_segment disk file
+FindsBad Tidy input disk file = ⊥
 
 -- the head of the greatest sealed generation is bad, and nothing else was done
 pub record StopsAtHead (input : Stream) (disk : Disk) (file : FileRef) : Type 0 where
@@ -157,6 +166,7 @@ IsFull (ProfImage epochs event csv) input disk what held added = ⊥
 IsFull (ProfProcedure epochs event csv) input disk what held added = ⊥
 IsFull Cat input disk what held added = ⊥
 IsFull Runs input disk what held added = ⊥
+IsFull Tidy input disk what held added = ⊥
 
 -- no fault of the input or the store was counted
 abbrev pub KeepsCounts : Stream → Disk → Type 0

@@ -9,7 +9,7 @@ use Rattle.sample_key.specs.Events.{event_named}
 use Rattle.report_text.specs.declared.epochs.Epochs.{Epochs}
 use Rattle.report_text.specs.declared.epochs.Epochs.TheVariants.{All, One}
 use Rattle.dcpi_top.specs.declared.commands.Command.{Command}
-use Rattle.dcpi_top.specs.declared.commands.Command.TheVariants.{Plain, Replay, ProfImage, ProfProcedure, Cat, Runs}
+use Rattle.dcpi_top.specs.declared.commands.Command.TheVariants.{Plain, Replay, ProfImage, ProfProcedure, Cat, Runs, Tidy}
 
 -- an epoch, where the number is below 2 ^ 32
 abbrev pub epoch_in : ℕ → Option Epochs
@@ -47,7 +47,8 @@ abbrev pub command_on : List ℕ → Option Command
 command_on word =
     if bytes_eq word (codes "replay") then Some Replay
     else if bytes_eq word (codes "cat") then Some Cat
-    else if bytes_eq word (codes "runs") then Some Runs else None
+    else if bytes_eq word (codes "runs") then Some Runs
+    else if bytes_eq word (codes "tidy") then Some Tidy else None
 
 -- a command on a database, with how it lists
 abbrev pub command_listing : List ℕ → List ℕ → List ℕ → List ℕ → List ℕ → Option Command

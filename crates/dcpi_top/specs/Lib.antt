@@ -13,3 +13,4 @@ pub mod Plains
 pub mod Refusals
 pub mod Replays
 pub mod Streams
+pub mod Tidies

@@ -15,7 +15,7 @@ use Rattle.report_text.specs.declared.epochs.Epochs.{Epochs}
 use Rattle.report_text.specs.declared.epochs.Epochs.TheVariants.{One}
 use Rattle.dcpiprof_report.specs.Reading.{first_bad, wanted}
 use Rattle.dcpi_top.specs.declared.commands.Command.{Command}
-use Rattle.dcpi_top.specs.declared.commands.Command.TheVariants.{Plain, Replay, ProfImage, ProfProcedure, Cat, Runs}
+use Rattle.dcpi_top.specs.declared.commands.Command.TheVariants.{Plain, Replay, ProfImage, ProfProcedure, Cat, Runs, Tidy}
 use Rattle.dcpi_top.specs.declared.refusals.Refusal.{Refusal}
 use Rattle.dcpi_top.specs.declared.refusals.Refusal.TheVariants.{Usage, TraceBad, ReadFault, StoreFault, WriteFault, Memory, DatabaseBad, Full, SymbolBad, NoSuchEpoch}
 use Rattle.dcpi_top.specs.Streams.{Stream, Disk}
@@ -37,6 +37,7 @@ IsToldBegun (ProfImage epochs event csv) disk = HasToldEpochs epochs disk
 IsToldBegun (ProfProcedure epochs event csv) disk = HasToldEpochs epochs disk
 IsToldBegun Cat disk = (head : Head) × IsToldHead disk head
 IsToldBegun Runs disk = (head : Head) × IsToldHead disk head
+IsToldBegun Tidy disk = (head : Head) × IsToldHead disk head
 
 -- the files are told to have a head, and the epoch that is asked for is above its last one
 pub record ToldLacks (epochs : Epochs) (disk : Disk) (epoch last : ℕ) : Type 0 where
@@ -53,6 +54,7 @@ IsToldMissing (ProfImage epochs event csv) disk epoch last = ToldLacks epochs di
 IsToldMissing (ProfProcedure epochs event csv) disk epoch last = ToldLacks epochs disk epoch last
 IsToldMissing Cat disk epoch last = ⊥
 IsToldMissing Runs disk epoch last = ⊥
+IsToldMissing Tidy disk epoch last = ⊥
 
 -- The files are told to have a head under which the epochs are there; this is the first bad file of the rows that are wanted, if
 -- one is bad.
@@ -88,6 +90,7 @@ MustFind (ProfProcedure epochs event csv) input disk file =
     HasToldList input × ToldFirst epochs (code_of event) disk (Some file)
 MustFind Cat input disk file = ToldWhole bad_profile disk (Some file)
 MustFind Runs input disk file = ToldWhole bad_segment disk (Some file)
+MustFind Tidy input disk file = ⊥
 
 -- a part of the run is told to have no room
 abbrev pub MustBeFull : Command → Stream → Disk → FullWhat → ℕ → ℕ → Type 0
@@ -97,6 +100,7 @@ MustBeFull (ProfImage epochs event csv) input disk what held added = ⊥
 MustBeFull (ProfProcedure epochs event csv) input disk what held added = ⊥
 MustBeFull Cat input disk what held added = ⊥
 MustBeFull Runs input disk what held added = ⊥
+MustBeFull Tidy input disk what held added = ⊥
 
 -- The refusal has its cause by what the input and the store tell, and no cause comes before it.
 abbrev pub IsOwed : Command → Stream → Disk → Refusal → Type 0
@@ -123,6 +127,7 @@ IsSound (ProfProcedure epochs event csv) input disk =
     HasToldList input × ToldFirst epochs (code_of event) disk None
 IsSound Cat input disk = ToldWhole bad_profile disk None
 IsSound Runs input disk = ToldWhole bad_segment disk None
+IsSound Tidy input disk = (head : Head) × IsToldHead disk head
 
 -- a fault of an object, or want of memory
 abbrev pub IsFree : Refusal → Type 0

@@ -14,6 +14,7 @@ use crate::messages::tell;
 use crate::plains::plain_text;
 use crate::refusals::Refusal;
 use crate::replays::replay_text;
+use crate::tidies::tidy_text;
 use outside_io::{Sink, Source, put_all};
 use std::alloc::Global;
 use store_io::Store;
@@ -105,5 +106,6 @@ fn text_for<S: Source, D: Store>(
         }
         Command::Cat => counts_of(alloc, store),
         Command::Runs => runs_of(alloc, store),
+        Command::Tidy => tidy_text(alloc, store),
     }
 }

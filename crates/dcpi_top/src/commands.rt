@@ -35,6 +35,8 @@ pub enum Command {
     Cat,
     /// Print the runs of the database, each with its tally.
     Runs,
+    /// Remove the files that the database does not use, and print how many they were.
+    Tidy,
 }
 
 /// The command of the words behind the program's name; `None` where they have no form of a command. The second word is the
@@ -79,6 +81,8 @@ fn command_on(word: &[u8]) -> Option<Command>
         Some(Command::Cat)
     } else if word == b"runs".as_slice() {
         Some(Command::Runs)
+    } else if word == b"tidy".as_slice() {
+        Some(Command::Tidy)
     } else {
         None
     }

@@ -10,6 +10,7 @@ mod messages;
 mod plains;
 mod refusals;
 mod replays;
+mod tidies;
 
 pub use answering::dcpi_still;
 pub use commands::{Command, words_of};

@@ -1,5 +1,8 @@
 use Rattle.std.proofs.Common.{refl, subst, sym}
+use Rattle.std.specs.declared.option.Option.TheVariants.{Some}
 use Rattle.dcpi_top.specs.Causes.{GivesText}
+use Rattle.dcpi_top.specs.Moments.{LeavesAtAnyMoment}
+use Rattle.dcpi_top.specs.Refusals.{refused, status_in}
 use Rattle.dcpi_top.specs.Streams.{seen}
 use Rattle.dcpi_top.proofs.answering.text_for.Goals as goal
 
@@ -30,3 +33,15 @@ returns-in-Runs-clause-gives g c = subst (λ command. GivesText (λ text. text.i
     (seen g.D.Store.files g.D.Store.faults c.args.store.now c.runs_of.new.store) c.runs_of.result) (sym c.in-Runs.is)
     (c.runs_of.ensures.gives (seen g.S.Source.left g.S.Source.faults c.args.source.now c.args.source.now)
     (record { same = refl; faults = refl }))
+
+pub returns-in-Tidy-clause-gives : goal.returns-in-Tidy-clause-gives
+returns-in-Tidy-clause-gives g c = subst (λ command. GivesText (λ text. text.items) command
+    (seen g.S.Source.left g.S.Source.faults c.args.source.now c.args.source.now)
+    (seen g.D.Store.files g.D.Store.faults c.args.store.now c.tidy_text.new.store) c.tidy_text.result) (sym c.in-Tidy.is)
+    (c.tidy_text.ensures.gives (seen g.S.Source.left g.S.Source.faults c.args.source.now c.args.source.now)
+    (record { same = refl; faults = refl }))
+
+pub returns-in-Tidy-clause-any_moment : goal.returns-in-Tidy-clause-any_moment
+returns-in-Tidy-clause-any_moment g c = subst (λ command. LeavesAtAnyMoment g.D.Store.files g.D.Store.moment g.D.Store.left_since (Some command)
+    (seen g.S.Source.left g.S.Source.faults c.args.source.now c.args.source.now) c.args.store.now c.tidy_text.new.store (status_in (refused c.tidy_text.result))) (sym c.in-Tidy.is)
+    (c.tidy_text.ensures.leaves (seen g.S.Source.left g.S.Source.faults c.args.source.now c.args.source.now))
