@@ -1,5 +1,5 @@
 -- Files have one head, which is good or bad.
-use Rattle.std.proofs.Common.{◌≡◌, ◌≢◌, ◌<◌, ◌≤◌, ◌⊎◌, inl, inr, ℕ, true, List, refl, sym, subst, ap, arith, ◌∙◌}
+use Rattle.std.proofs.Common.{◌≡◌, inl, inr, ℕ, true, List, refl, sym, subst, ap, arith, ◌∙◌}
 use Rattle.std.specs.declared.option.Option.{Option}
 use Rattle.std.specs.declared.option.Option.TheVariants.{Some, None}
 use Rattle.std.specs.List.{IsDistinct}
@@ -9,9 +9,8 @@ use Rattle.store_io.specs.Files.{Files}
 use Rattle.store_io.specs.declared.file_refs.FileRef.{FileRef}
 use Rattle.store_io.specs.declared.file_refs.FileRef.TheVariants as named
 use Rattle.image_catalog.specs.Images.{AreImages}
-use Rattle.database_state.specs.Heads.{Head, IsHead, empty_head, is_in_range, head_text}
+use Rattle.database_state.specs.Heads.{Head, empty_head, is_in_range, head_text}
 use Rattle.database_state.specs.Standing.{HaveHead, IsLatest, head_file, seal_file}
-use Rattle.epoch_store.specs.Reading.{HasNoHead}
 use Rattle.dcpi_top.specs.Heads.{IsBadHead}
 
 -- a name that is absent is not there

@@ -1,9 +1,7 @@
 -- A listing of an opened database: what reading its rows gives, and where it stops.
-use Rattle.std.proofs.Common.{◌≡◌, ◌≤◌, ◌⊎◌, inl, inr, ℕ, Bool, true, false, List, refl, sym, subst, ◌∙◌}
+use Rattle.std.proofs.Common.{◌≡◌, ◌≤◌, inr, ℕ, Bool, true, false, List, refl, sym, subst, ◌∙◌}
 use Rattle.std.specs.declared.option.Option.{Option}
 use Rattle.std.specs.declared.option.Option.TheVariants.{Some, None}
-use Rattle.std.specs.declared.result.Result.{Result}
-use Rattle.std.specs.declared.result.Result.TheVariants.{Ok, Err}
 use Rattle.std.specs.Prelude.{IfSome}
 use Rattle.std.specs.Io.KnownBytes.{IsAtEnd}
 use Rattle.outside_io.specs.Causes.{Rose}
@@ -28,8 +26,8 @@ use Rattle.dcpi_top.specs.declared.refusals.Refusal.TheVariants as refusals
 use Rattle.dcpi_top.specs.Refusals.{IsOfDatabase}
 use Rattle.dcpi_top.specs.Streams.{Stream, Disk, HasFailed, IsUntouched, KeepsCount}
 use Rattle.dcpi_top.specs.Inputs.{ReadsAsSymbols}
-use Rattle.dcpi_top.specs.Heads.{AreThere, OpenedWith}
-use Rattle.dcpi_top.specs.Listings.{IsListingOf, IsImageText, IsProcedureText, IsWholeText, bad_profile, bad_segment, listing_text}
+use Rattle.dcpi_top.specs.Heads.{AreThere}
+use Rattle.dcpi_top.specs.Listings.{IsImageText, IsProcedureText, IsWholeText, bad_profile, bad_segment, listing_text}
 use Rattle.dcpi_top.specs.Causes.{FindsFirst, IsCause, ReadsBad, HasSymbols}
 
 -- what is known of each value, where there is one

@@ -1,5 +1,5 @@
 -- What the top call promises follows from what serving a command says and from the line that was told.
-use Rattle.std.proofs.Common.{◌≡◌, ◌≢◌, ◌≤◌, ◌⊎◌, inl, inr, ℕ, List, refl, subst, arith}
+use Rattle.std.proofs.Common.{◌≡◌, ◌≤◌, inl, inr, ℕ, refl, subst, arith}
 use Rattle.std.specs.declared.option.Option.{Option}
 use Rattle.std.specs.declared.option.Option.TheVariants.{Some, None}
 use Rattle.dcpi_top.specs.declared.commands.Command.{Command}
@@ -8,9 +8,8 @@ use Rattle.dcpi_top.specs.declared.refusals.Refusal.TheVariants.{Usage, TraceBad
 use Rattle.dcpi_top.specs.Commands.{command_of}
 use Rattle.dcpi_top.specs.Messages.{TellsLine}
 use Rattle.dcpi_top.specs.Refusals.{status_in, status_of}
-use Rattle.dcpi_top.specs.Streams.{Stream, Disk, HasFailed}
+use Rattle.dcpi_top.specs.Streams.{Stream, Disk}
 use Rattle.dcpi_top.specs.Causes.{IsCause}
-use Rattle.dcpi_top.specs.Owing.{IsOwed, IsRefusedAs, IsSound}
 use Rattle.dcpi_top.specs.Answers.{Answers, Call, Serves, ServesCall}
 use Rattle.dcpi_top.proofs.KnownLaws.{Known}
 use Rattle.dcpi_top.proofs.Owed.{owed_is_answered}

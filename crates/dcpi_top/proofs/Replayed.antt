@@ -1,5 +1,5 @@
 -- A replay that was run, or that stopped: what it owes, from what the replay below it left.
-use Rattle.std.proofs.Common.{◌≡◌, ◌≢◌, ◌≤◌, ◌+◌, ◌⊎◌, inl, inr, ℕ, true, false, List, refl, sym, subst, ap, arith, ◌∙◌}
+use Rattle.std.proofs.Common.{◌≡◌, ◌≢◌, ◌≤◌, ◌+◌, ◌⊎◌, inl, inr, ℕ, true, List, refl, sym, subst, arith, ◌∙◌}
 use Rattle.std.specs.declared.option.Option.{Option}
 use Rattle.std.specs.declared.option.Option.TheVariants.{Some, None}
 use Rattle.trace_model.specs.Recording.{Recording}
@@ -21,12 +21,12 @@ use Rattle.summary_text.specs.Summaries.{summary_of}
 use Rattle.dcpi_top.specs.declared.commands.Command.TheVariants.{Replay}
 use Rattle.dcpi_top.specs.declared.refusals.Refusal.{Refusal}
 use Rattle.dcpi_top.specs.Refusals.{IsOfDatabase, status_of}
-use Rattle.dcpi_top.specs.Streams.{Stream, Disk, seen, KeepsCount}
+use Rattle.dcpi_top.specs.Streams.{Stream, seen}
 use Rattle.dcpi_top.specs.Inputs.{ReadsAs}
 use Rattle.dcpi_top.specs.Heads.{OpenedWith}
 use Rattle.dcpi_top.specs.Moments.{ReadsOnly}
 use Rattle.dcpi_top.specs.Replays.{IsReadInto, IsReplayText, LeavesParts, StopsRun, run_of}
-use Rattle.dcpi_top.specs.Causes.{IsCause, KeepsCounts}
+use Rattle.dcpi_top.specs.Causes.{IsCause}
 
 -- what holds of each value holds of this one
 pub of_told : {A : Type 0} (o : Option A) (P : A → Type 0) (x : A) → Rattle.std.specs.Prelude.IfSome o P → o ≡ Some x → P x

@@ -1,24 +1,24 @@
 -- A run that keeps the limits stops nowhere.
-use Rattle.std.proofs.Common.{◌≡◌, ◌≤◌, ◌<◌, ◌+◌, ◌⊎◌, inl, inr, ℕ, zero, suc, true, false, List, ◌++◌, length, refl, sym, subst, ap, arith, ◌∙◌, add-one}
+use Rattle.std.proofs.Common.{◌≡◌, ◌≤◌, ◌+◌, inl, inr, ℕ, zero, suc, true, List, length, sym, subst, ap, arith, ◌∙◌, add-one}
 use Rattle.std.proofs.lemmas.List.{length-append}
 use Rattle.std.proofs.Math.Nat.{eq-or-lt_of_le}
 use Rattle.std.specs.List.{IsDistinct}
 use Rattle.std.specs.Str.{bytes_eq}
 use Rattle.store_io.specs.Files.{Files}
-use Rattle.trace_model.specs.Recording.{Recording, said_in}
+use Rattle.trace_model.specs.Recording.{Recording}
 use Rattle.trace_model.specs.Streams.{records_in}
 use Rattle.trace_model.specs.declared.notices.Record.{Record}
 use Rattle.database_model.specs.Runs.{Recorded}
 use Rattle.run_model.specs.Shares.{segment_of}
 use Rattle.database_state.specs.Database.{Database}
 use Rattle.database_state.specs.Heads.{Head, row_count}
-use Rattle.database_state.specs.Standing.{HaveHead, database_of}
+use Rattle.database_state.specs.Standing.{database_of}
 use Rattle.database_state.specs.declared.faults.DbFault.{DbFault}
 use Rattle.database_state.specs.declared.faults.DbFault.TheVariants as faults
 use Rattle.growth_model.specs.Additions.{additions_of}
 use Rattle.growth_model.specs.Growth.{Grows, GrowsByPart}
-use Rattle.growth_model.specs.Grown.{Grown, GrowsTo, GrownWhole, part_count, epoch_after_parts}
-use Rattle.growth_model.specs.Fitting.{FitsAfter, HeadGrows, HeadGrowsTo, KeepsLimits}
+use Rattle.growth_model.specs.Grown.{GrowsTo, epoch_after_parts}
+use Rattle.growth_model.specs.Fitting.{HeadGrows, HeadGrowsTo, KeepsLimits}
 use Rattle.dcpid_core.specs.Storing.{HasNoRows, StopsPart, is_found_before}
 use Rattle.replay_drive.specs.Growing.{StopsAt, part_at}
 use Rattle.dcpi_top.proofs.Heading.{head_holds}

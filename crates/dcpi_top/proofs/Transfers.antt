@@ -1,14 +1,11 @@
 -- What stops a part rests on what the files say, and on nothing else of them.
-use Rattle.std.proofs.Common.{◌≡◌, ◌<◌, ◌≤◌, ◌⊎◌, inl, inr, ℕ, true, List, ◌++◌, length, refl, sym, subst, ap, arith, ◌∙◌}
+use Rattle.std.proofs.Common.{◌≡◌, ◌≤◌, inl, inr, ℕ, true, List, ◌++◌, length, sym, subst, ap, ◌∙◌}
 use Rattle.std.proofs.lemmas.Bool.{cases_lt}
-use Rattle.std.specs.declared.option.Option.{Option}
-use Rattle.std.specs.declared.option.Option.TheVariants.{Some, None}
+use Rattle.std.specs.declared.option.Option.TheVariants.{None}
 use Rattle.store_io.specs.Files.{Files}
 use Rattle.sample_key.specs.Events.{code_of}
-use Rattle.image_catalog.specs.Images.{AreImages, place_of}
+use Rattle.image_catalog.specs.Images.{AreImages}
 use Rattle.trace_model.specs.Recording.{name_at}
-use Rattle.database_model.specs.declared.profiles.ProfileRow.{ProfileRow}
-use Rattle.database_state.specs.Database.{Database}
 use Rattle.database_state.specs.Heads.{Head, is_in_range}
 use Rattle.database_state.specs.Rows.{known_row}
 use Rattle.database_state.specs.Standing.{database_of, known_at}
@@ -18,7 +15,7 @@ use Rattle.database_state.specs.declared.faults.DbFault.TheVariants as faults
 use Rattle.epoch_store.proofs.Sealed.{no_row}
 use Rattle.epoch_store.proofs.Stays.{bounded}
 use Rattle.growth_model.specs.Additions.{Additions}
-use Rattle.profile_merge.specs.Faults.{HasRoom, IsFirstFault, IsFirstWrong, IsWrong, added_to, held_by}
+use Rattle.profile_merge.specs.Faults.{HasRoom, IsFirstFault, IsWrong, added_to, held_by}
 use Rattle.profile_merge.specs.declared.owners.Owner.{Owner}
 use Rattle.profile_merge.specs.declared.owners.Owner.TheVariants.{Known, Unknown}
 use Rattle.profile_merge.proofs.Names.{own_place}

@@ -1,7 +1,5 @@
 -- The head of the database: a command opens the database by the head of the greatest sealed generation.
-use Rattle.std.specs.Prelude.{◌≡◌, ℕ, ◌≤◌, ◌<◌, IfSome}
-use Rattle.std.specs.declared.option.Option.{Option}
-use Rattle.std.specs.declared.option.Option.TheVariants.{Some}
+use Rattle.std.specs.Prelude.{◌≡◌, ℕ, ◌≤◌, IfSome}
 use Rattle.store_io.specs.Files.{Files}
 use Rattle.store_io.specs.declared.file_refs.FileRef.{FileRef}
 use Rattle.store_io.specs.declared.file_refs.FileRef.TheVariants as named

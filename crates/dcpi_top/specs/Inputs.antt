@@ -1,5 +1,5 @@
 -- What is said of the input, where its bytes are told: a trace, a symbol list, or a first bad line.
-use Rattle.std.specs.Prelude.{◌≡◌, ℕ, List, IfSome}
+use Rattle.std.specs.Prelude.{ℕ, List, IfSome}
 use Rattle.std.specs.declared.option.Option.{Option}
 use Rattle.std.specs.declared.option.Option.TheVariants.{Some, None}
 use Rattle.trace_model.specs.declared.reasons.TraceWhy.{TraceWhy}

@@ -17,7 +17,7 @@ use Rattle.report_text.specs.Texts.{report_text}
 use Rattle.report_text.specs.Csvs.{report_csv}
 use Rattle.dcpiprof_report.specs.Counting.{counted}
 use Rattle.dcpiprof_report.specs.Reading.{first_bad, wanted}
-use Rattle.counts_listing.specs.Counting.{all_files, IsTextOf}
+use Rattle.counts_listing.specs.Counting.{all_files}
 use Rattle.run_listing.specs.Orders as orders
 use Rattle.run_listing.specs.Texts.{listing_of}
 use Rattle.dcpi_top.specs.Streams.{Stream, Disk}

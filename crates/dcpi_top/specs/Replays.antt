@@ -1,7 +1,7 @@
 -- What `replay` owes: the summary of the run of the trace, and a database that has grown by it.
-use Rattle.std.specs.Prelude.{◌≡◌, ◌≢◌, ◌⊎◌, ℕ, ◌+◌, ◌<◌, ◌≤◌, List}
+use Rattle.std.specs.Prelude.{◌≡◌, ◌≢◌, ◌⊎◌, ℕ, ◌+◌, ◌≤◌, List}
 use Rattle.std.specs.declared.option.Option.{Option}
-use Rattle.std.specs.declared.option.Option.TheVariants.{Some, None}
+use Rattle.std.specs.declared.option.Option.TheVariants.{Some}
 use Rattle.std.specs.Io.KnownBytes.{IsAtEnd}
 use Rattle.trace_model.specs.Recording.{Recording}
 use Rattle.trace_model.specs.Streams.{records_in}
@@ -21,7 +21,7 @@ use Rattle.replay_drive.specs.Outcomes.{IsReplayOf}
 use Rattle.summary_text.specs.Summaries.{summary_of}
 use Rattle.dcpi_top.specs.Streams.{Stream, Disk, KeepsCount}
 use Rattle.dcpi_top.specs.Inputs.{ReadsAs, IsToldTrace}
-use Rattle.dcpi_top.specs.Heads.{OpenedWith, IsToldHead}
+use Rattle.dcpi_top.specs.Heads.{OpenedWith}
 
 -- the record of the run of a trace into a database with this head, which the definitions give
 abbrev pub run_of : Recording → Head → Recorded

@@ -1,5 +1,4 @@
 use Rattle.std.proofs.Common.{◌≡◌, ◌∙◌, map, string_bytes, subst, sym}
-use Rattle.std.specs.declared.option.Option.TheVariants.{Some}
 use Rattle.dcpi_top.specs.declared.refusals.Refusal.TheVariants.{WriteFault}
 use Rattle.dcpi_top.specs.Commands.{command_of}
 use Rattle.dcpi_top.specs.Moments.{LeavesAtAnyMoment}

@@ -1,5 +1,4 @@
-use Rattle.std.proofs.Common.{refl, rules}
-use Rattle.dcpi_top.specs.Messages.{first_words, line_of}
+use Rattle.std.proofs.Common.{rules}
 use Rattle.dcpi_top.specs.Streams.{seen}
 use Rattle.dcpi_top.proofs.Telling.{has_failed, told_first, told_whole}
 use Rattle.dcpi_top.proofs.messages.tell.Goals as goal

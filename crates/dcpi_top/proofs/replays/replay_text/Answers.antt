@@ -1,5 +1,4 @@
 use Rattle.std.proofs.Common.{◌∙◌, ◌≡◌, inl, inr, subst, sym}
-use Rattle.std.specs.declared.option.Option.TheVariants.{Some}
 use Rattle.trace_model.specs.Traces.{recording_of}
 use Rattle.database_state.specs.Standing.{HaveHead}
 use Rattle.store_io.proofs.Chains.{reads_then}
