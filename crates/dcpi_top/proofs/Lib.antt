@@ -8,6 +8,7 @@ pub mod Owed
 pub mod Passing
 pub mod Promises
 pub mod Replayed
+pub mod RowCounts
 pub mod Sound
 pub mod Stopping
 pub mod Telling

@@ -14,15 +14,13 @@ use Rattle.symbol_ranges.specs.declared.refusals.SymbolWhy.{SymbolWhy}
 use Rattle.symbol_ranges.specs.Lines as symbols
 use Rattle.database_state.specs.Database.{Database}
 use Rattle.database_state.specs.Heads.{Head}
-use Rattle.database_state.specs.Standing.{HaveHead, database_of}
+use Rattle.database_state.specs.Standing.{HaveHead}
 use Rattle.database_state.specs.declared.faults.DbFault.{DbFault}
 use Rattle.database_state.specs.declared.faults.DbFault.TheVariants as faults
-use Rattle.trace_model.specs.Streams.{records_in}
-use Rattle.growth_model.specs.Grown.{GrownWhole}
 use Rattle.dcpid_core.specs.Storing.{is_found_before}
 use Rattle.replay_drive.specs.Growing.{StopsAt}
 use Rattle.dcpi_top.specs.Replays.{IsReplayText, MustStop, StopsRun, run_of}
-use Rattle.dcpi_top.proofs.OneStop.{no_end, one_stop}
+use Rattle.dcpi_top.proofs.OneStop.{EndsWith, no_end, one_stop}
 use Rattle.report_text.specs.declared.epochs.Epochs.{Epochs}
 use Rattle.report_text.specs.declared.epochs.Epochs.TheVariants.{One}
 use Rattle.dcpiprof_report.specs.Reading.{first_bad, wanted}
@@ -379,22 +377,27 @@ runs_file laws input disk file told (NoSuchEpoch epoch last) cause = absurd caus
 
 -- ---- a part at which a replay stops
 
-run_text : Known → (input : Stream) (disk : Disk) (fault : DbFault) → MustStop input disk fault → (text : List ℕ) → IsReplayText input disk text → ⊥
-run_text laws input disk fault must text is =
+run_text : Known → (input : Stream) (disk : Disk) (fault : DbFault) → is_found_before fault ≡ true → MustStop input disk fault
+    → (text : List ℕ) → IsReplayText input disk text → ⊥
+run_text laws input disk fault before must text is =
     let one : is.recording ≡ must.recording = same_trace laws input.old is.recording must.recording is.reads must.reads in
     let same : is.head ≡ must.head = same_head laws disk.old must.files is.head must.head is.opened must.told must.has_head in
-    let (after, new, now, has, whole) = is.grown must.files must.told in
-    no_end laws must.recording must.head new must.files must.grown after fault (images_apart input.old must.recording must.reads) must.stops has
-    (subst (λ h. GrownWhole must.recording.images (records_in must.recording) (run_of must.recording h) (database_of h must.files) (database_of new after)) same
-    (subst (λ r. GrownWhole r.images (records_in r) (run_of r is.head) (database_of is.head must.files) (database_of new after)) one
-    (subst (λ kept. GrownWhole is.recording.images (records_in is.recording) kept (database_of is.head must.files) (database_of new after)) is.run.kept whole)))
+    let (after, new, now, has, heads, whole) = is.grown must.files must.told in
+    let ends : EndsWith is.recording is.outcome.kept is.head must.files new after = record { heads = heads; grown = whole } in
+    no_end laws must.recording (run_of must.recording must.head) must.head must.files must.has_head (images_apart input.old must.recording must.reads)
+    new must.grown after fault before must.stops.0 must.stops.1 has
+    (subst (λ h. EndsWith must.recording (run_of must.recording h) h must.files new after) same
+    (subst (λ r. EndsWith r (run_of r is.head) is.head must.files new after) one
+    (subst (λ kept. EndsWith is.recording kept is.head must.files new after) is.run.kept ends)))
 
-one_run : Known → (input : Stream) (disk : Disk) (told found : DbFault) → is_found_before found ≡ true → MustStop input disk told → StopsRun input disk found → found ≡ told
-one_run laws input disk told found before must run =
+one_run : Known → (input : Stream) (disk : Disk) (told found : DbFault) → is_found_before told ≡ true → is_found_before found ≡ true
+    → MustStop input disk told → StopsRun input disk found → found ≡ told
+one_run laws input disk told found before_told before_found must run =
     let one : run.recording ≡ must.recording = same_trace laws input.old run.recording must.recording run.reads must.reads in
     let same : run.head ≡ must.head = same_head laws disk.old must.files run.head must.head run.opened must.told must.has_head in
     let (c, now, (parts, at)) = run.stops must.files must.told in
-    one_stop laws must.recording must.head must.files must.grown c parts told found (images_apart input.old must.recording must.reads) must.stops before
+    one_stop laws must.recording (run_of must.recording must.head) must.head must.files must.has_head (images_apart input.old must.recording must.reads)
+    must.grown c told found before_told before_found must.stops.0 parts must.stops.1
     (subst (λ h. StopsAt must.recording (run_of must.recording h) parts h must.files c found) same
     (subst (λ r. StopsAt r (run_of r run.head) parts run.head must.files c found) one at))
 
@@ -405,33 +408,33 @@ as_refusal (faults.Bad file) = DatabaseBad file
 as_refusal (faults.Full what held added) = Full what held added
 as_refusal faults.Memory = Memory
 
-stop_cause : Known → (input : Stream) (disk : Disk) (owed : Refusal) (fault : DbFault) → as_refusal fault ≡ owed → MustStop input disk fault
-    → (r : Refusal) → IsCause Replay input disk r → (r ≡ owed) ⊎ IsFree r
-stop_cause laws input disk owed fault is must Usage cause = absurd cause
-stop_cause laws input disk owed fault is must (TraceBad a b) cause = absurd (no_bad_line laws input.old a b must.recording cause.2 must.reads)
-stop_cause laws input disk owed fault is must ReadFault cause = inr tt
-stop_cause laws input disk owed fault is must StoreFault cause = inr tt
-stop_cause laws input disk owed fault is must WriteFault cause = absurd cause
-stop_cause laws input disk owed fault is must Memory cause = inr tt
-stop_cause laws input disk owed fault is must (DatabaseBad other) cause = elim cause.2 [
+stop_cause : Known → (input : Stream) (disk : Disk) (owed : Refusal) (fault : DbFault) → as_refusal fault ≡ owed → is_found_before fault ≡ true
+    → MustStop input disk fault → (r : Refusal) → IsCause Replay input disk r → (r ≡ owed) ⊎ IsFree r
+stop_cause laws input disk owed fault is before must Usage cause = absurd cause
+stop_cause laws input disk owed fault is before must (TraceBad a b) cause = absurd (no_bad_line laws input.old a b must.recording cause.2 must.reads)
+stop_cause laws input disk owed fault is before must ReadFault cause = inr tt
+stop_cause laws input disk owed fault is before must StoreFault cause = inr tt
+stop_cause laws input disk owed fault is before must WriteFault cause = absurd cause
+stop_cause laws input disk owed fault is before must Memory cause = inr tt
+stop_cause laws input disk owed fault is before must (DatabaseBad other) cause = elim cause.2 [
   | inl bad ↦ absurd (not_bad disk.old must.files must.head other bad.bad must.told must.has_head)
-  | inr run ↦ inl (ap as_refusal (one_run laws input disk fault (faults.Bad other) refl must run) ∙ is)
+  | inr run ↦ inl (ap as_refusal (one_run laws input disk fault (faults.Bad other) before refl must run) ∙ is)
 ]
-stop_cause laws input disk owed fault is must (Full what held added) cause =
-    inl (ap as_refusal (one_run laws input disk fault (faults.Full what held added) refl must cause.1) ∙ is)
-stop_cause laws input disk owed fault is must (SymbolBad a b) cause = absurd cause.0
-stop_cause laws input disk owed fault is must (NoSuchEpoch epoch last) cause = absurd cause.0
+stop_cause laws input disk owed fault is before must (Full what held added) cause =
+    inl (ap as_refusal (one_run laws input disk fault (faults.Full what held added) before refl must cause.1) ∙ is)
+stop_cause laws input disk owed fault is before must (SymbolBad a b) cause = absurd cause.0
+stop_cause laws input disk owed fault is before must (NoSuchEpoch epoch last) cause = absurd cause.0
 
 owed_stop : Known → (input : Stream) (disk : Disk) (output : Stream) (refusal : Option Refusal) (owed : Refusal) (fault : DbFault) → as_refusal fault ≡ owed
-    → Serves Replay input disk output refusal → MustStop input disk fault → IsRefusedAs owed refusal
-owed_stop laws input disk output refusal owed fault is serves must = by_cause Replay input disk output refusal owed serves
-    (run_text laws input disk fault must) (stop_cause laws input disk owed fault is must)
+    → is_found_before fault ≡ true → Serves Replay input disk output refusal → MustStop input disk fault → IsRefusedAs owed refusal
+owed_stop laws input disk output refusal owed fault is before serves must = by_cause Replay input disk output refusal owed serves
+    (run_text laws input disk fault before must) (stop_cause laws input disk owed fault is before must)
 
 owed_full : Known → (command : Command) (input : Stream) (disk : Disk) (output : Stream) (refusal : Option Refusal) (what : Rattle.database_state.specs.declared.faults.FullWhat.FullWhat)
     (held added : ℕ) → Serves command input disk output refusal → Rattle.dcpi_top.specs.Owing.MustBeFull command input disk what held added
     → IsRefusedAs (Full what held added) refusal
 owed_full laws Plain input disk output refusal what held added serves must = absurd must
-owed_full laws Replay input disk output refusal what held added serves must = owed_stop laws input disk output refusal (Full what held added) (faults.Full what held added) refl serves must
+owed_full laws Replay input disk output refusal what held added serves must = owed_stop laws input disk output refusal (Full what held added) (faults.Full what held added) refl refl serves must
 owed_full laws (ProfImage epochs event csv) input disk output refusal what held added serves must = absurd must
 owed_full laws (ProfProcedure epochs event csv) input disk output refusal what held added serves must = absurd must
 owed_full laws Cat input disk output refusal what held added serves must = absurd must
@@ -443,7 +446,7 @@ owed_full laws Tidy input disk output refusal what held added serves must = absu
 owed_file : Known → (command : Command) (input : Stream) (disk : Disk) (output : Stream) (refusal : Option Refusal) (file : FileRef)
     → Serves command input disk output refusal → Rattle.dcpi_top.specs.Owing.MustFind command input disk file → IsRefusedAs (DatabaseBad file) refusal
 owed_file laws Plain input disk output refusal file serves must = absurd must
-owed_file laws Replay input disk output refusal file serves must = owed_stop laws input disk output refusal (DatabaseBad file) (faults.Bad file) refl serves must
+owed_file laws Replay input disk output refusal file serves must = owed_stop laws input disk output refusal (DatabaseBad file) (faults.Bad file) refl refl serves must
 owed_file laws (ProfImage epochs event csv) input disk output refusal file serves must = by_cause (ProfImage epochs event csv) input disk output refusal (DatabaseBad file) serves
     (λ text is. listed_good laws None epochs event csv disk is.head file text is.opened is.listed must) (image_file laws epochs event csv input disk file must)
 owed_file laws (ProfProcedure epochs event csv) input disk output refusal file serves must = by_cause (ProfProcedure epochs event csv) input disk output refusal (DatabaseBad file) serves

@@ -15,7 +15,7 @@ use Rattle.database_model.specs.Runs.{Recorded}
 use Rattle.growth_model.specs.Grown.{Grown, part_count}
 use Rattle.dcpid_core.specs.Storing.{TellsNow, is_found_before}
 use Rattle.dcpid_core.specs.declared.outcomes.Outcome.{Outcome}
-use Rattle.replay_drive.specs.Growing.{MayBeGrown, parts_at_most}
+use Rattle.replay_drive.specs.Growing.{HeadGrownBy, MayBeGrown, parts_at_most}
 use Rattle.replay_drive.specs.Outcomes as below
 use Rattle.summary_text.specs.Summaries.{summary_of}
 use Rattle.dcpi_top.specs.declared.commands.Command.TheVariants.{Replay}
@@ -81,6 +81,8 @@ module _ {D : Type 0} (files : D → Option Files) (counts moment : D → ℕ) (
       leaves.head,
       now,
       has,
+      subst (λ kept. HeadGrownBy trace kept (part_count (records_in trace)) head leaves.head) (sym run.kept)
+          (subst (λ parts. HeadGrownBy trace (run_of trace head) parts head leaves.head) (leaves.whole refl) (leaves.store.heads refl)),
       subst (λ kept. Grown trace.images (records_in trace) kept (part_count (records_in trace)) (database_of head f) (database_of leaves.head g)) (sym run.kept)
           (subst (λ parts. Grown trace.images (records_in trace) (run_of trace head) parts (database_of head f) (database_of leaves.head g)) (leaves.whole refl) grown),
     );

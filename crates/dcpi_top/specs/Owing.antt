@@ -92,7 +92,7 @@ MustFind Cat input disk file = ToldWhole bad_profile disk (Some file)
 MustFind Runs input disk file = ToldWhole bad_segment disk (Some file)
 MustFind Tidy input disk file = ⊥
 
--- a part of the run is told to have no room
+-- a part of the run is told to have no room: for an image, for a count, or for the rows of the head
 abbrev pub MustBeFull : Command → Stream → Disk → FullWhat → ℕ → ℕ → Type 0
 MustBeFull Plain input disk what held added = ⊥
 MustBeFull Replay input disk what held added = MustStop input disk (faults.Full what held added)

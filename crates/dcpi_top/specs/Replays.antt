@@ -8,15 +8,15 @@ use Rattle.trace_model.specs.Streams.{records_in}
 use Rattle.store_io.specs.Files.{Files}
 use Rattle.store_io.specs.Crashes.{LeavesOnly}
 use Rattle.database_model.specs.Runs.{Recorded}
-use Rattle.database_state.specs.Heads.{Head, row_count}
+use Rattle.database_state.specs.Heads.{Head}
 use Rattle.database_state.specs.Standing.{HaveHead, database_of}
 use Rattle.database_state.specs.declared.faults.DbFault.{DbFault}
 use Rattle.growth_model.specs.Fitting.{KeepsLimits}
 use Rattle.growth_model.specs.Grown.{GrownWhole, part_count}
 use Rattle.run_rounds.specs.Rounds.{reference_record}
 use Rattle.dcpid_core.specs.declared.outcomes.Outcome.{Outcome}
-use Rattle.dcpid_core.specs.Storing.{StopsPart, TellsNow}
-use Rattle.replay_drive.specs.Growing.{HeadGrownBy, MayBeGrown, StopsAt, part_at}
+use Rattle.dcpid_core.specs.Storing.{TellsNow}
+use Rattle.replay_drive.specs.Growing.{HeadGrownBy, MayBeGrown, StopsAt}
 use Rattle.replay_drive.specs.Outcomes.{IsReplayOf}
 use Rattle.summary_text.specs.Summaries.{summary_of}
 use Rattle.dcpi_top.specs.Streams.{Stream, Disk, KeepsCount}
@@ -27,10 +27,12 @@ use Rattle.dcpi_top.specs.Heads.{OpenedWith}
 abbrev pub run_of : Recording → Head → Recorded
 run_of recording head = reference_record recording (head.runs + 1) head.epoch
 
--- The files stood for a database with this head, and now stand for it grown by a whole run with this record.
+-- The files stood for a database with this head. Now they stand for it grown by a whole run with this record, and their head is the
+-- one after all its parts.
 abbrev pub GrowsWhole : Recording → Head → Recorded → Disk → Type 0
 GrowsWhole recording head kept disk = (f : Files) → disk.old ≡ Some f →
     (g : Files) × (new : Head) × (disk.new ≡ Some g) × HaveHead g new
+    × HeadGrownBy recording kept (part_count (records_in recording)) head new
     × GrownWhole recording.images (records_in recording) kept
     (database_of head f) (database_of new g)
 
@@ -49,7 +51,7 @@ pub record IsReplayText (input : Stream) (disk : Disk) (text : List ℕ) : Type 
   pub grown : GrowsWhole recording head outcome.kept disk
 
 -- The run of the trace stops at a part: by the files that the store told, grown by the parts before, this fault is the first one
--- of that part.
+-- of that part. It is of an image or a profile, or, where none of these has one, of the rows of the head.
 abbrev pub Stops : Recording → Head → Files → Files → DbFault → Type 0
 Stops recording head f g fault =
     (parts : ℕ) × StopsAt recording (run_of recording head) parts head f g fault
@@ -65,16 +67,6 @@ pub record StopsRun (input : Stream) (disk : Disk) (fault : DbFault) : Type 0 wh
   pub stops : (f : Files) → disk.old ≡ Some f →
       (g : Files) × (disk.new ≡ Some g) × Stops recording head f g fault
 
--- The first part at which the run of a trace stops, and why: a file is bad, or an image or a count has no room. No part before it
--- lacks rows.
-pub record StopsFirst (recording : Recording) (head : Head) (f g : Files) (fault : DbFault)
-    : Type 0 where
-  pub parts : ℕ
-  pub at : StopsAt recording (run_of recording head) parts head f g fault
-  pub wrong : StopsPart (part_at recording (run_of recording head) parts at.head) g fault
-  pub rows : (number : ℕ) (h : Head) → number ≤ parts →
-      HeadGrownBy recording (run_of recording head) number head h → row_count h ≤ 65536
-
 -- The input is told to be a trace, the files are told to have a head, and the run stops for this fault.
 pub record MustStop (input : Stream) (disk : Disk) (fault : DbFault) : Type 0 where
   pub recording : Recording
@@ -84,7 +76,7 @@ pub record MustStop (input : Stream) (disk : Disk) (fault : DbFault) : Type 0 wh
   pub reads : IsToldTrace input recording
   pub told : disk.old ≡ Some files
   pub has_head : HaveHead files head
-  pub stops : StopsFirst recording head files grown fault
+  pub stops : Stops recording head files grown fault
 
 -- The input is told to be a trace, the files are told to stand for a database, and the run keeps it within its limits.
 pub record IsSoundReplay (input : Stream) (disk : Disk) : Type 0 where
