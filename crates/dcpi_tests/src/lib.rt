@@ -12,6 +12,8 @@ mod refusals;
 #[cfg(test)]
 mod replays;
 #[cfg(test)]
+mod row_limit;
+#[cfg(test)]
 mod rows;
 #[cfg(test)]
 mod traces;
