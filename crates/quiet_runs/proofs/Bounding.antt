@@ -36,7 +36,7 @@ use Rattle.growth_model.specs.Additions.{known_count, known_of, known_drained, u
 use Rattle.small_runs.specs.Small.{IsSmallRun}
 use Rattle.quiet_runs.specs.Quiet.{IsQuietTrace}
 use Rattle.quiet_runs.proofs.Placing.{Keeps, PlaceFits, place_fits}
-use Rattle.quiet_runs.proofs.Summing.{passed, passed_most, passed_none}
+use Rattle.quiet_runs.proofs.Summing.{any_same, is_any, passed, passed_most, passed_none}
 
 -- ---- addresses
 
@@ -44,14 +44,8 @@ use Rattle.quiet_runs.proofs.Summing.{passed, passed_most, passed_none}
 abbrev pub is_high : Key → Bool
 is_high key = not (ltb key.pc (2 ^ 64))
 
-abbrev pub is_any : Key → Bool
-is_any key = true
-
 high_same : Respects is_high
 high_same a b same = ap (λ (n : ℕ). not (ltb n (2 ^ 64))) (same_parts a b same).1
-
-any_same : Respects is_any
-any_same a b same = refl
 
 abbrev pub HasAddress : Line → Type 0
 HasAddress (Sample cpu key) = is_high key ≡ false
@@ -237,7 +231,7 @@ all_zero records (d ∷ drains) none placed = (placed.0.epoch ∙ no_epoch recor
 
 -- ---- the record
 
-index_none : (losses : List (List Loss)) (cpu : ℕ) → AllOf (λ (l : List Loss). l ≡ []) losses → slice_index_or losses cpu [] ≡ []
+pub index_none : (losses : List (List Loss)) (cpu : ℕ) → AllOf (λ (l : List Loss). l ≡ []) losses → slice_index_or losses cpu [] ≡ []
 index_none [] cpu none = refl
 index_none (l ∷ losses) zero none = none.0
 index_none (l ∷ losses) (suc cpu) none = index_none losses cpu none.1

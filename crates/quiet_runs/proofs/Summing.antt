@@ -57,6 +57,18 @@ unfolding as_entries
 few_pass test [] = omega arith
 few_pass test (s ∷ samples) = omega (arith, cond_most (test s.key), few_pass test samples)
 
+-- a test that each key passes
+abbrev pub is_any : Key → Bool
+is_any key = true
+
+pub any_same : Respects is_any
+any_same a b same = refl
+
+all_pass : (samples : List Marked) → counted_where is_any (as_entries samples) ≡ length samples
+unfolding as_entries
+all_pass [] = refl
+all_pass (s ∷ samples) = omega (arith, all_pass samples)
+
 none_pass : (test : Key → Bool) (samples : List Marked) → AllOf (λ s. test s.key ≡ false) samples → counted_where test (as_entries samples) ≡ 0
 unfolding as_entries
 none_pass test [] h = refl
@@ -100,7 +112,7 @@ abbrev pub over : ℕ → (ℕ → ℕ) → ℕ
 over zero f = 0
 over (suc n) f = over n f + f n
 
-over_one : (n cpu x : ℕ) (f g : ℕ → ℕ) → ((k : ℕ) → f k ≡ cond (eqb cpu k) x 0 + g k) → over n f ≡ cond (ltb cpu n) x 0 + over n g
+pub over_one : (n cpu x : ℕ) (f g : ℕ → ℕ) → ((k : ℕ) → f k ≡ cond (eqb cpu k) x 0 + g k) → over n f ≡ cond (ltb cpu n) x 0 + over n g
 over_one zero cpu x f g h = ap (λ (b : Bool). cond b x 0 + 0) (sym (none_first cpu))
 over_one (suc n) cpu x f g h =
     let both : cond (ltb cpu (suc n)) x 0 ≡ cond (ltb cpu n) x 0 + cond (eqb cpu n) x 0
@@ -110,6 +122,10 @@ over_one (suc n) cpu x f g h =
 over_most : (n most : ℕ) (f : ℕ → ℕ) → ((k : ℕ) → k < n → f k ≤ most) → over n f ≤ n * most
 over_most zero most f h = omega arith
 over_most (suc n) most f h = omega (arith, over_most n most f (λ k l. h k (omega arith)), h n (omega arith), suc-mul n most)
+
+over_same : (n : ℕ) (f g : ℕ → ℕ) → ((k : ℕ) → k < n → f k ≡ g k) → over n f ≡ over n g
+over_same zero f g h = refl
+over_same (suc n) f g h = omega (arith, over_same n f g (λ k l. h k (omega arith)), h n (omega arith))
 
 passed_cond : (test : Key → Bool) (b : Bool) (d : Drained) (l : List Drained) → passed test (cond b (d ∷ l) l) ≡ cond b (counted_where test d.batch.entries) 0 + passed test l
 unfolding passed
@@ -135,7 +151,7 @@ three_more test d drains few cpu =
       passed_cond test (is_of cpu 2 d) d (drains_of cpu 2 drains),
     )
 
-over_none : (n : ℕ) → over n (λ k. 0) ≡ 0
+pub over_none : (n : ℕ) → over n (λ k. 0) ≡ 0
 over_none zero = refl
 over_none (suc n) = omega (arith, over_none n)
 
@@ -170,3 +186,13 @@ passed_none test same trace drains samples own once none =
     let zero_each = over_most trace.cpus 0 (three test drains) (λ cpu l.
     omega (arith, share_passes test same (share_in drains [] cpu) (samples cpu) refl (once cpu l), none_pass test (samples cpu) (none cpu))) in
     omega (arith, by_processor test trace drains own, zero_each, mul-zero trace.cpus)
+
+-- all that was drained is as much as there are samples
+pub passed_all : (trace : Recording) (drains : List Drained) (samples : ℕ → List Marked) → AllOf (IsOfTrace trace) drains
+    → ((cpu : ℕ) → cpu < trace.cpus → AreCountedOnce (samples cpu) (share_in drains [] cpu))
+    → passed is_any drains ≡ over trace.cpus (λ cpu. length (samples cpu))
+unfolding three
+passed_all trace drains samples own once =
+    by_processor is_any trace drains own
+    ∙ over_same trace.cpus (three is_any drains) (λ cpu. length (samples cpu)) (λ cpu l.
+    share_passes is_any any_same (share_in drains [] cpu) (samples cpu) refl (once cpu l) ∙ all_pass (samples cpu))
