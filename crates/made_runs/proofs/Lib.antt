@@ -1,0 +1,4 @@
+pub mod Stopping
+pub mod Empty
+pub mod Counted
+pub mod Taken
