@@ -1,7 +1,6 @@
 -- The text of a made trace, and the summary of its run.
-use Rattle.std.specs.Prelude.{◌≡◌, ◌≤◌, ℕ, List, [], map, sum_by}
+use Rattle.std.specs.Prelude.{◌≡◌, ℕ, List, [], map, sum_by}
 use Rattle.text_num.specs.Lines.{text_of_lines}
-use Rattle.sample_key.specs.declared.limits.TheConstants.{MOST_SAMPLES}
 use Rattle.sample_key.specs.declared.losses.Pace.TheVariants.{Free}
 use Rattle.trace_model.specs.Said.{line_text}
 use Rattle.trace_model.specs.Recording.{Reads, Recording, said_in}
@@ -66,7 +65,7 @@ pub record IsMadeText (seed samples : ℕ) (text : List ℕ) : Type 0 where
   pub made : IsTraceOf seed samples trace
   pub printed : text ≡ made_text seed samples
 
--- The first run of the trace of each seed is whole.
-abbrev pub MadeRunIsWhole : Recording → Type 0
-MadeRunIsWhole trace = (seed samples : ℕ) → samples ≤ MOST_SAMPLES → IsTraceOf seed samples trace
-    → IsWholeRun samples trace
+-- A trace that says what the trace of a seed says is it.
+abbrev pub IsKnownByWhatItSays : Recording → Type 0
+IsKnownByWhatItSays trace = (seed samples : ℕ) → said_in trace ≡ made_trace seed samples
+    → trace.schedule ≡ [] → IsTraceOf seed samples trace

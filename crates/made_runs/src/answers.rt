@@ -4,7 +4,7 @@ ghost use Rattle.std.specs.Prelude.{◌≤◌, IfOk};
 ghost use Rattle.sample_key.specs.declared.limits.TheConstants.{MOST_SAMPLES};
 ghost use Rattle.made_runs.specs.FirstRuns.{IsMadeSummary, IsMadeText, IsSummaryOfRead};
 
-use crate::laws::made_runs_are_whole;
+use crate::laws::made_run_is_whole;
 use crate::runs::run_text;
 use crate::traces::trace_of;
 use std::alloc::{AllocError, Global};
@@ -18,7 +18,7 @@ pub fn made_summary(alloc: Global, seed: u64, samples: u32) -> Result<Vec<u8>, A
     ensures read_back { IfOk result (λ text. IsSummaryOfRead seed samples text.items) }
 {
     let trace = trace_of(alloc, seed, samples)?;
-    made_runs_are_whole(&trace);
+    made_run_is_whole(&trace, seed, samples);
     let text = run_text(alloc, &trace)?;
     Ok(text)
 }

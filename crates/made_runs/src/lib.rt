@@ -8,4 +8,4 @@ mod runs;
 mod traces;
 
 pub use answers::{made_summary, made_text};
-pub use laws::{fitting_runs_do_not_stop, made_runs_are_whole};
+pub use laws::{fitting_runs_do_not_stop, made_run_is_whole, said_traces_are_read};

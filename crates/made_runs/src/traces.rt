@@ -6,9 +6,9 @@ ghost use Rattle.trace_model.specs.Traces.{recording_of};
 ghost use Rattle.generator_laws.specs.Made.{IsMade};
 ghost use Rattle.made_runs.specs.FirstRuns.{IsTraceOf};
 
+use crate::laws::said_traces_are_read;
 use std::alloc::{AllocError, Global};
 use trace_generator::make_trace;
-use trace_laws::trace_text_reads;
 use trace_model::Trace;
 
 /// The trace of a seed with this many samples.
@@ -18,6 +18,6 @@ pub(crate) fn trace_of(alloc: Global, seed: u64, samples: u32) -> Result<Trace, 
     ensures made { IfOk result (λ trace. IsMade (recording_of trace)) }
 {
     let trace = make_trace(alloc, seed, samples)?;
-    trace_text_reads(&trace);
+    said_traces_are_read(&trace);
     Ok(trace)
 }
