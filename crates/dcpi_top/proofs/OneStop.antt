@@ -1,5 +1,5 @@
 -- A run stops at one part, for one fault.
-use Rattle.std.proofs.Common.{◌≡◌, ◌≤◌, ◌<◌, inl, inr, ℕ, zero, suc, true, List, length, sym, subst, ap, arith, ◌∙◌, ◌⊎◌}
+use Rattle.std.proofs.Common.{◌≡◌, ◌<◌, ◌⊎◌, inl, inr, ℕ, suc, true, sym, subst, ap, arith, ◌∙◌}
 use Rattle.std.proofs.lemmas.Bool.{cases_order}
 use Rattle.std.specs.List.{IsDistinct}
 use Rattle.std.specs.Str.{bytes_eq}
@@ -7,7 +7,6 @@ use Rattle.store_io.specs.Files.{Files}
 use Rattle.trace_model.specs.Recording.{Recording}
 use Rattle.trace_model.specs.Streams.{records_in}
 use Rattle.database_model.specs.Runs.{Recorded}
-use Rattle.database_state.specs.Database.{Database}
 use Rattle.database_state.specs.Heads.{Head, is_in_range, row_count}
 use Rattle.database_state.specs.Standing.{HaveHead, database_of}
 use Rattle.database_state.specs.declared.faults.DbFault.{DbFault}
