@@ -12,7 +12,7 @@ const FIRST: &[u8] = b"k 0 A cycles 0 1\n";
 const BOTH: &[u8] = b"k 0 A cycles 0 1\nk 1 A cycles 0 1\n";
 
 /// The call of the store before the writes: the names are asked for.
-const BEFORE_WRITES: u64 = 1;
+pub const BEFORE_WRITES: u64 = 1;
 
 // A replay of which this call of the store fails, and what is listed afterwards.
 fn stops(
@@ -86,7 +86,8 @@ fn each_call_of_the_store_fails(rt: HostRuntime) -> Result<(), Fail> {
     gives(&rt, rt.alloc(), &WORKED, &mut store)
 }
 
-const LISTED: Row = Row {
+/// A known and an unknown sample, listed.
+pub const LISTED: Row = Row {
     out: b"k 0 A imiss ffc 1\nu 0 imiss 11000 1\n",
     ..COUNTED
 };

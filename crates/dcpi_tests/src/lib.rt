@@ -16,4 +16,6 @@ mod row_limit;
 #[cfg(test)]
 mod rows;
 #[cfg(test)]
+mod tidies;
+#[cfg(test)]
 mod traces;

@@ -2,6 +2,7 @@
 use crate::listings::EMPTY;
 use crate::replays::{COUNTED, REPLAYED, RUNS};
 use crate::rows::{Row, gives, gives_all, names_of, put_files, sound_store};
+use crate::tidies::HEADLESS_TIDY;
 use crate::traces::{BOUNDARY, FOLD, TRUNCATED, UNALIGNED};
 use std::test::Fail;
 
@@ -56,6 +57,16 @@ const REPLAY_ALONE: Row = Row {
 
 const TOO_MANY: Row = Row {
     words: &["replay", "db", "db"],
+    ..NO_WORDS
+};
+
+const TIDY_ALONE: Row = Row {
+    words: &["tidy"],
+    ..NO_WORDS
+};
+
+const TIDY_TOO_MANY: Row = Row {
+    words: &["tidy", "db", "db"],
     ..NO_WORDS
 };
 
@@ -143,6 +154,8 @@ fn refused_words(rt: HostRuntime) -> Result<(), Fail> {
         NO_WORDS,
         REPLAY_ALONE,
         TOO_MANY,
+        TIDY_ALONE,
+        TIDY_TOO_MANY,
         PADDED_EPOCH,
         GREAT_EPOCH,
         NO_EVENT,
@@ -168,6 +181,7 @@ fn a_missing_head(rt: HostRuntime) -> Result<(), Fail> {
         HEADLESS_COUNTS,
         HEADLESS_RUNS,
         HEADLESS_REPLAY,
+        HEADLESS_TIDY,
         HEADLESS_AND_BAD_TRACE,
         HEADLESS_AND_NO_READ,
         NO_WORDS,
@@ -269,6 +283,7 @@ fn bad_heads(rt: HostRuntime) -> Result<(), Fail> {
         gives(&rt, alloc, &REPLAYED, &mut store)?;
         put_files(&rt, alloc, &mut store, &[("head.1", *head)])?;
         gives(&rt, alloc, &HEADLESS_COUNTS, &mut store)?;
+        gives(&rt, alloc, &HEADLESS_TIDY, &mut store)?;
     }
     Ok(())
 }

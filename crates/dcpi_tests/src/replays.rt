@@ -281,12 +281,14 @@ const AT_OTHER_IMAGE: Row = Row {
     ..COUNTED
 };
 
-const IN_EPOCHS: Row = Row {
+/// Two epochs, listed.
+pub const IN_EPOCHS: Row = Row {
     out: b"k 0 A cycles 0 1\nk 1 A cycles 0 1\n",
     ..COUNTED
 };
 
-const RUN_OF_PARTS: Row = Row {
+/// The run of two parts, listed.
+pub const RUN_OF_PARTS: Row = Row {
     out: b"run 1 parts 2 whole\nc 0 cycles taken 2 known 2 unknown 0 lost 0\n",
     ..RUNS
 };
