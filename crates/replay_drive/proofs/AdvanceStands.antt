@@ -187,7 +187,7 @@ rungs_like d e x trace pace state =
     ∙ ap (λ (t : Recording). rungs_of d.pace (records_in t) e.state) trace
     ∙ ap (λ (z : Daemon). rungs_of d.pace (records_in d.trace) z) state
 
-by_kind : CountsAgree → (d e : Collection) (sides : List Plain) (done : Advancing) → Kind d.pace (records_in d.trace) d.state done → Went done d e → FitFrom d 0 sides
+pub by_kind : CountsAgree → (d e : Collection) (sides : List Plain) (done : Advancing) → Kind d.pace (records_in d.trace) d.state done → Went done d e → FitFrom d 0 sides
     → Agree (flush_before d.state.applied) d.flushes (fars_in sides)
     → FitFrom e 0 (rang_if done.ring sides) × Agree (flush_before e.state.applied) e.flushes (fars_in (rang_if done.ring sides))
 by_kind laws d e sides done (Waits is ring answer) went fits counts =

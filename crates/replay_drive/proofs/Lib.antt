@@ -1,17 +1,17 @@
 -- The lemmas behind the answers.
 mod Playing
-mod Among
+pub mod Among
 mod Beginning
 mod Waiting
-mod Polling
-mod PollStands
-mod Alike
-mod AdvanceStands
+pub mod Polling
+pub mod PollStands
+pub mod Alike
+pub mod AdvanceStands
 mod TurnStands
-mod StoreKept
-mod PartsKept
-mod AdvanceStores
-mod StepsTaken
+pub mod StoreKept
+pub mod PartsKept
+pub mod AdvanceStores
+pub mod StepsTaken
 mod StepsMany
 mod Started
 mod RunWhole

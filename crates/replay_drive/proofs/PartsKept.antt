@@ -8,24 +8,21 @@ use Rattle.std.proofs.lemmas.List.Sums.{sum_by-cons, sum_by-take-le}
 use Rattle.sample_key.specs.Sent.{Sent}
 use Rattle.sample_key.specs.declared.losses.Loss.{Loss}
 use Rattle.sample_key.specs.declared.losses.Pace.{Pace}
-use Rattle.sample_key.specs.declared.losses.Pace.TheVariants.{Free}
 use Rattle.trace_model.specs.Parts.{begins_epoch, ends_part, epoch_after, part_of}
 use Rattle.trace_model.specs.Recording.{Recording}
 use Rattle.trace_model.specs.Streams.{records_in}
 use Rattle.trace_model.specs.declared.notices.Record.{Record}
 use Rattle.trace_model.specs.declared.notices.Record.TheVariants.{Scan, Load, Unload, Exec, Exit, Kernel, Drain, Merge, Epoch}
-use Rattle.trace_model.specs.declared.notices.Step.{Step}
 use Rattle.driver_model.specs.Lists.{AllOf}
-use Rattle.database_model.specs.Runs.{Drained, Segment}
+use Rattle.database_model.specs.Runs.{Drained, Recorded, Segment}
 use Rattle.database_state.specs.declared.faults.DbFault.{DbFault}
 use Rattle.database_state.specs.Heads.{Head}
 use Rattle.growth_model.specs.Grown.{epoch_after_parts}
 use Rattle.run_model.specs.Books.{IsBefore}
 use Rattle.run_model.specs.Daemon.{Advancing, Daemon, drain_of}
-use Rattle.run_model.specs.Running.{System, after_steps, record_of}
 use Rattle.run_model.specs.Shares.{drains_in_part, last_part}
 use Rattle.run_laws.proofs.Basics.{eqb_apart}
-use Rattle.run_laws.proofs.Growing.{part_later, parts_stand}
+use Rattle.run_laws.proofs.Growing.{part_later}
 use Rattle.run_laws.proofs.Keeping.{count_next}
 use Rattle.dcpid_core.specs.Advancing.{MovesOn, commits, ends_next, is_moved}
 use Rattle.dcpid_core.specs.Collection.{Collection}
@@ -200,24 +197,21 @@ part_with head images records epoch segment = record { images = images; records 
 pub whole_part : (head : Head) {i1 i2 : List (List ℕ)} {r1 r2 : List Record} {e1 e2 : ℕ} {s1 s2 : Segment} → i1 ≡ i2 → r1 ≡ r2 → e1 ≡ e2 → s1 ≡ s2 → part_with head i1 r1 e1 s1 ≡ part_with head i2 r2 e2 s2
 whole_part head images records epoch segment = λ i. part_with head (images i) (records i) (epoch i) (segment i)
 
--- it is the next part of the record of a run that goes on from here
-pub next_part : (trace : Recording) (run first_epoch : ℕ) (d : Collection) (done : Advancing) (system : System) (rest : List Step)
-    → d.trace ≡ trace → d.run ≡ run → d.first_epoch ≡ first_epoch → d.failure ≡ None → Kind d.pace (records_in d.trace) d.state done → commits d done.answer ≡ true
-    → done.daemon.applied ≡ system.daemon.applied → done.daemon.epoch ≡ system.daemon.epoch → d.state.drains ≡ system.daemon.drains
-    → system.daemon.epoch ≡ epoch_after first_epoch (take system.daemon.applied (records_in trace))
-    → KeepsParts trace d → IsNextPart trace (record_of run first_epoch (after_steps Free trace system rest)) d.part (part_in d done.daemon.epoch false [])
-next_part trace run first_epoch d done system rest is run_is first_is fine kind commit applied epoch drains books keeps =
+-- it is the next part of this record, whose drains of that part are those of now once the part has ended
+pub next_part : (trace : Recording) (kept : Recorded) (d : Collection) (done : Advancing)
+    → d.trace ≡ trace → d.run ≡ kept.run → d.first_epoch ≡ kept.first_epoch → d.failure ≡ None → Kind d.pace (records_in d.trace) d.state done → commits d done.answer ≡ true
+    → done.daemon.epoch ≡ epoch_after kept.first_epoch (take done.daemon.applied (records_in trace))
+    → (d.part < part_of (records_in trace) done.daemon.applied → drains_in_part (records_in trace) d.part kept.drains ≡ drains_in_part (records_in trace) d.part d.state.drains)
+    → KeepsParts trace d → IsNextPart trace kept d.part (part_in d done.daemon.epoch false [])
+next_part trace kept d done is run_is first_is fine kind commit books stand keeps =
     let records = records_in trace in
-    let kept = record_of run first_epoch (after_steps Free trace system rest) in
     let moved : part_of records done.daemon.applied ≡ part_of records d.state.applied + 1 = part_moved d.pace trace d done is fine kind true commit in
-    let now : part_of records system.daemon.applied ≡ d.part + 1 = ap (λ n. part_of records n) (sym applied) ∙ moved ∙ ap (λ n. n + 1) (sym (keeps.part fine)) in
-    let most : d.part + 1 ≤ last_part records = omega (arith, part_within records system.daemon.applied, now) in
+    let now : part_of records done.daemon.applied ≡ d.part + 1 = moved ∙ ap (λ n. n + 1) (sym (keeps.part fine)) in
+    let most : d.part + 1 ≤ last_part records = omega (arith, part_within records done.daemon.applied, now) in
     let mid : (eqb d.part (last_part records)) ≡ false = eqb_apart d.part (last_part records) (λ e. omega (arith, most, e)) in
-    let mine : d.noted ≡ drains_in_part records d.part kept.drains =
-    keeps.noted fine ∙ ap (λ (z : List Drained). drains_in_part records d.part z) drains
-    ∙ sym (parts_stand Free trace system rest d.part (omega (arith, now))) in
-    let at_epoch : done.daemon.epoch ≡ epoch_after_parts first_epoch records (d.part + 1) =
-    epoch ∙ books ∙ epoch_by_parts first_epoch records system.daemon.applied ∙ ap (λ n. epoch_after_parts first_epoch records n) now in
+    let mine : d.noted ≡ drains_in_part records d.part kept.drains = keeps.noted fine ∙ sym (stand (omega (arith, now))) in
+    let at_epoch : done.daemon.epoch ≡ epoch_after_parts kept.first_epoch records (d.part + 1) =
+    books ∙ epoch_by_parts kept.first_epoch records done.daemon.applied ∙ ap (λ n. epoch_after_parts kept.first_epoch records n) now in
     record {
       same = whole_part d.head (ap (λ (t : Recording). t.images) is) (ap records_in is) at_epoch
           (segment_parts run_is refl (sym mid) first_is mine (sym (cond-false (eqb d.part (last_part records)) kept.losses [] mid)));
