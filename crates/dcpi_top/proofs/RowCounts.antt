@@ -8,9 +8,9 @@ use Rattle.trace_model.specs.declared.notices.Record.{Record}
 use Rattle.database_model.specs.Runs.{Segment, Recorded}
 use Rattle.database_state.specs.Heads.{Head, row_count}
 use Rattle.database_state.specs.Rows.{known_before, unknown_before, is_before_first, is_rising}
-use Rattle.epoch_store.specs.Orders.{IsOrder}
-use Rattle.epoch_store.proofs.Order.{and_first, and_second, cases, none_before}
-use Rattle.epoch_store.proofs.RowOrders.{known_order, unknown_order}
+use Rattle.database_state.specs.Orders.{IsOrder}
+use Rattle.database_state.proofs.RowOrders.{known_order, none_before, unknown_order}
+use Rattle.epoch_store.proofs.Order.{and_first, and_second, cases}
 use Rattle.growth_model.specs.Additions.{Additions}
 use Rattle.growth_model.specs.Fitting.{HeadGrows, HeadGrowsTo, RowGrows}
 
