@@ -1,16 +1,16 @@
 -- The forms of commands by the number of words.
 use Rattle.std.proofs.Common.{◌≡◌, ℕ, ◌<◌, ◌≤◌, List, [], ◌∷◌, length, map, get_or, refl, ap, arith}
 use Rattle.std.specs.declared.option.Option.TheVariants.{None}
-use Rattle.dcpi_top.specs.Commands.{command_of, command_on, command_listing}
+use Rattle.dcpi_top.specs.Commands.{command_of, command_on, command_listing, command_making, command_tracing}
 
--- from three to five words are no command
-pub none_between : {S : Type 0} (f : S → List ℕ) (items : List S) → 3 ≤ length items → length items < 6
+-- five words are no command
+pub none_between : {S : Type 0} (f : S → List ℕ) (items : List S) → 5 ≤ length items → length items < 6
     → None ≡ command_of (map f items)
 none_between f [] low high = absurd (omega arith)
 none_between f (a ∷ []) low high = absurd (omega arith)
 none_between f (a ∷ b ∷ []) low high = absurd (omega arith)
-none_between f (a ∷ b ∷ c ∷ []) low high = refl
-none_between f (a ∷ b ∷ c ∷ d ∷ []) low high = refl
+none_between f (a ∷ b ∷ c ∷ []) low high = absurd (omega arith)
+none_between f (a ∷ b ∷ c ∷ d ∷ []) low high = absurd (omega arith)
 none_between f (a ∷ b ∷ c ∷ d ∷ e ∷ []) low high = refl
 none_between f (a ∷ b ∷ c ∷ d ∷ e ∷ g ∷ more) low high = absurd (omega arith)
 
@@ -32,6 +32,27 @@ two f [] word low high is = absurd (omega arith)
 two f (a ∷ []) word low high is = absurd (omega arith)
 two f (a ∷ b ∷ []) word low high is = ap (λ w. command_on (f w)) is
 two f (a ∷ b ∷ c ∷ more) word low high is = absurd (omega arith)
+
+-- three words make a trace
+pub three : {S : Type 0} (f : S → List ℕ) (items : List S) (word seed samples : S) → 3 ≤ length items → length items < 4
+    → word ≡ get_or items 0 word → seed ≡ get_or items 1 seed → samples ≡ get_or items 2 samples
+    → command_making (f word) (f seed) (f samples) ≡ command_of (map f items)
+three f [] word seed samples low high p q r = absurd (omega arith)
+three f (a ∷ []) word seed samples low high p q r = absurd (omega arith)
+three f (a ∷ b ∷ []) word seed samples low high p q r = absurd (omega arith)
+three f (a ∷ b ∷ c ∷ []) word seed samples low high p q r = λ i. command_making (f (p i)) (f (q i)) (f (r i))
+three f (a ∷ b ∷ c ∷ d ∷ more) word seed samples low high p q r = absurd (omega arith)
+
+-- four words make one that is printed
+pub four : {S : Type 0} (f : S → List ℕ) (items : List S) (word seed samples form : S) → 4 ≤ length items → length items < 5
+    → word ≡ get_or items 0 word → seed ≡ get_or items 1 seed → samples ≡ get_or items 2 samples → form ≡ get_or items 3 form
+    → command_tracing (f word) (f seed) (f samples) (f form) ≡ command_of (map f items)
+four f [] word seed samples form low high p q r s = absurd (omega arith)
+four f (a ∷ []) word seed samples form low high p q r s = absurd (omega arith)
+four f (a ∷ b ∷ []) word seed samples form low high p q r s = absurd (omega arith)
+four f (a ∷ b ∷ c ∷ []) word seed samples form low high p q r s = absurd (omega arith)
+four f (a ∷ b ∷ c ∷ d ∷ []) word seed samples form low high p q r s = λ i. command_tracing (f (p i)) (f (q i)) (f (r i)) (f (s i))
+four f (a ∷ b ∷ c ∷ d ∷ e ∷ more) word seed samples form low high p q r s = absurd (omega arith)
 
 -- five words of six
 pub record SixWords {S : Type 0} (items : List S) (word kind epoch event form : S) : Type 0 where

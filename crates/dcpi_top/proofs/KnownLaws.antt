@@ -7,6 +7,7 @@ use Rattle.database_state.specs.Heads as heads
 use Rattle.database_state.specs.Standing.{HaveHead}
 use Rattle.growth_model.specs.Laws.{FirstHeadsAreOne, FirstPartsAreOne, OneHeadIsOne}
 use Rattle.profile_merge.specs.Laws.{GrowthHasNoFault}
+use Rattle.made_runs.specs.Stopping.{FittingRunsDoNotStop}
 
 pub record Known : Type 0 where
   pub not_both : (bytes : List ℕ) → IsTrace bytes → IsRefused bytes → ⊥
@@ -19,3 +20,4 @@ pub record Known : Type 0 where
   pub next_head : OneHeadIsOne
   pub first_heads : FirstHeadsAreOne
   pub no_fault : GrowthHasNoFault
+  pub no_stop : FittingRunsDoNotStop

@@ -3,6 +3,7 @@ pub mod Forms
 pub mod Heading
 pub mod KnownLaws
 pub mod Listed
+pub mod Makings
 pub mod OneStop
 pub mod Owed
 pub mod Passing

@@ -25,7 +25,7 @@ use Rattle.report_text.specs.declared.epochs.Epochs.{Epochs}
 use Rattle.report_text.specs.declared.epochs.Epochs.TheVariants.{One}
 use Rattle.dcpiprof_report.specs.Reading.{first_bad, wanted}
 use Rattle.dcpi_top.specs.declared.commands.Command.{Command}
-use Rattle.dcpi_top.specs.declared.commands.Command.TheVariants.{Plain, Replay, ProfImage, ProfProcedure, Cat, Runs, Tidy}
+use Rattle.dcpi_top.specs.declared.commands.Command.TheVariants.{Plain, Replay, ProfImage, ProfProcedure, Cat, Runs, Tidy, Make}
 use Rattle.dcpi_top.specs.declared.refusals.Refusal.{Refusal}
 use Rattle.dcpi_top.specs.declared.refusals.Refusal.TheVariants.{Usage, TraceBad, ReadFault, StoreFault, WriteFault, Memory, DatabaseBad, Full, SymbolBad, NoSuchEpoch}
 use Rattle.dcpi_top.specs.Streams.{Stream, Disk}
@@ -99,6 +99,7 @@ trace_text laws (ProfProcedure epochs event csv) input disk line why reads told 
 trace_text laws Cat input disk line why reads told text is = reads
 trace_text laws Runs input disk line why reads told text is = reads
 trace_text laws Tidy input disk line why reads told text is = reads
+trace_text laws (Make seed samples trace) input disk line why reads told text is = reads
 
 trace_plain : Known → (input : Stream) (disk : Disk) (line : ℕ) (why : TraceWhy) → IsToldBad input line why
     → (r : Refusal) → IsCause Plain input disk r → (r ≡ TraceBad line why) ⊎ IsFree r
@@ -138,6 +139,7 @@ trace_cause laws (ProfProcedure epochs event csv) input disk line why reads begu
 trace_cause laws Cat input disk line why reads begun told r cause = absurd reads
 trace_cause laws Runs input disk line why reads begun told r cause = absurd reads
 trace_cause laws Tidy input disk line why reads begun told r cause = absurd reads
+trace_cause laws (Make seed samples trace) input disk line why reads begun told r cause = absurd reads
 
 -- ---- a bad line of a symbol list
 
@@ -223,6 +225,7 @@ head_text_none (ProfProcedure epochs event csv) input disk file uses told text i
 head_text_none Cat input disk file uses told text is = told_bad disk.old is.head file is.opened told
 head_text_none Runs input disk file uses told text is = told_bad disk.old is.head file is.opened told
 head_text_none Tidy input disk file uses told text is = told_bad disk.old is.head file is.opened told
+head_text_none (Make seed samples trace) input disk file uses told text is = uses
 
 -- nothing was read behind it
 no_begun : (command : Command) (disk : Disk) (file : FileRef) → UsesStore command → IsToldBadHead disk file → IsBegun command disk → ⊥
@@ -233,6 +236,7 @@ no_begun (ProfProcedure epochs event csv) disk file uses told begun = told_bad d
 no_begun Cat disk file uses told begun = told_bad disk.old begun.0 file begun.1 told
 no_begun Runs disk file uses told begun = told_bad disk.old begun.0 file begun.1 told
 no_begun Tidy disk file uses told begun = told_bad disk.old begun.0 file begun.1 told
+no_begun (Make seed samples trace) disk file uses told begun = uses
 
 no_found : (command : Command) (input : Stream) (disk : Disk) (file other : FileRef) → UsesStore command → IsToldBadHead disk file
     → Rattle.dcpi_top.specs.Causes.FindsBad command input disk other → ⊥
@@ -243,6 +247,7 @@ no_found (ProfProcedure epochs event csv) input disk file other uses told found 
 no_found Cat input disk file other uses told found = told_bad disk.old found.head file found.opened told
 no_found Runs input disk file other uses told found = told_bad disk.old found.head file found.opened told
 no_found Tidy input disk file other uses told found = found
+no_found (Make seed samples trace) input disk file other uses told found = found
 
 no_missing : (command : Command) (disk : Disk) (file : FileRef) (epoch last : ℕ) → UsesStore command → IsToldBadHead disk file
     → Rattle.dcpi_top.specs.Causes.IsMissing command disk epoch last → ⊥
@@ -253,6 +258,7 @@ no_missing (ProfProcedure epochs event csv) disk file epoch last uses told lacks
 no_missing Cat disk file epoch last uses told lacks = lacks
 no_missing Runs disk file epoch last uses told lacks = lacks
 no_missing Tidy disk file epoch last uses told lacks = lacks
+no_missing (Make seed samples trace) disk file epoch last uses told lacks = lacks
 
 no_room : (command : Command) (input : Stream) (disk : Disk) (file : FileRef) (what : Rattle.database_state.specs.declared.faults.FullWhat.FullWhat) (held added : ℕ)
     → UsesStore command → IsToldBadHead disk file → Rattle.dcpi_top.specs.Causes.IsFull command input disk what held added → ⊥
@@ -263,6 +269,7 @@ no_room (ProfProcedure epochs event csv) input disk file what held added uses to
 no_room Cat input disk file what held added uses told full = full
 no_room Runs input disk file what held added uses told full = full
 no_room Tidy input disk file what held added uses told full = full
+no_room (Make seed samples trace) input disk file what held added uses told full = full
 
 head_cause : (command : Command) (input : Stream) (disk : Disk) (file : FileRef) → UsesStore command → IsToldBadHead disk file
     → (r : Refusal) → IsCause command input disk r → (r ≡ DatabaseBad file) ⊎ IsFree r
@@ -440,6 +447,7 @@ owed_full laws (ProfProcedure epochs event csv) input disk output refusal what h
 owed_full laws Cat input disk output refusal what held added serves must = absurd must
 owed_full laws Runs input disk output refusal what held added serves must = absurd must
 owed_full laws Tidy input disk output refusal what held added serves must = absurd must
+owed_full laws (Make seed samples trace) input disk output refusal what held added serves must = absurd must
 
 -- ---- all of them
 
@@ -457,6 +465,7 @@ owed_file laws Cat input disk output refusal file serves must = by_cause Cat inp
 owed_file laws Runs input disk output refusal file serves must = by_cause Runs input disk output refusal (DatabaseBad file) serves
     (λ text is. whole_good laws bad_segment Rattle.dcpi_top.specs.Listings.IsRunsTextOf disk file text is must) (runs_file laws input disk file must)
 owed_file laws Tidy input disk output refusal file serves must = absurd must
+owed_file laws (Make seed samples trace) input disk output refusal file serves must = absurd must
 
 owed_epoch : Known → (command : Command) (input : Stream) (disk : Disk) (output : Stream) (refusal : Option Refusal) (epoch last : ℕ)
     → Serves command input disk output refusal → Rattle.dcpi_top.specs.Owing.IsToldMissing command disk epoch last → IsRefusedAs (NoSuchEpoch epoch last) refusal
@@ -469,6 +478,7 @@ owed_epoch laws (ProfProcedure epochs event csv) input disk output refusal epoch
 owed_epoch laws Cat input disk output refusal epoch last serves told = absurd told
 owed_epoch laws Runs input disk output refusal epoch last serves told = absurd told
 owed_epoch laws Tidy input disk output refusal epoch last serves told = absurd told
+owed_epoch laws (Make seed samples trace) input disk output refusal epoch last serves told = absurd told
 
 owed_symbol : Known → (command : Command) (input : Stream) (disk : Disk) (output : Stream) (refusal : Option Refusal) (line : ℕ) (why : SymbolWhy)
     → Serves command input disk output refusal → IsOwed command input disk (SymbolBad line why) → IsRefusedAs (SymbolBad line why) refusal
@@ -480,6 +490,7 @@ owed_symbol laws (ProfProcedure epochs event csv) input disk output refusal line
 owed_symbol laws Cat input disk output refusal line why serves owed = absurd owed.0
 owed_symbol laws Runs input disk output refusal line why serves owed = absurd owed.0
 owed_symbol laws Tidy input disk output refusal line why serves owed = absurd owed.0
+owed_symbol laws (Make seed samples trace) input disk output refusal line why serves owed = absurd owed.0
 
 pub owed_is_answered : Known → (command : Command) (input : Stream) (disk : Disk) (output : Stream) (refusal : Option Refusal) (owed : Refusal)
     → Serves command input disk output refusal → IsOwed command input disk owed → IsRefusedAs owed refusal

@@ -23,7 +23,7 @@ use Rattle.report_text.specs.declared.epochs.Epochs.{Epochs}
 use Rattle.report_text.specs.declared.epochs.Epochs.TheVariants.{One}
 use Rattle.dcpiprof_report.specs.Reading.{first_bad, wanted}
 use Rattle.dcpi_top.specs.declared.commands.Command.{Command}
-use Rattle.dcpi_top.specs.declared.commands.Command.TheVariants.{Plain, Replay, ProfImage, ProfProcedure, Cat, Runs, Tidy}
+use Rattle.dcpi_top.specs.declared.commands.Command.TheVariants.{Plain, Replay, ProfImage, ProfProcedure, Cat, Runs, Tidy, Make}
 use Rattle.dcpi_top.specs.declared.refusals.Refusal.{Refusal}
 use Rattle.dcpi_top.specs.declared.refusals.Refusal.TheVariants.{Usage, TraceBad, ReadFault, StoreFault, WriteFault, Memory, DatabaseBad, Full, SymbolBad, NoSuchEpoch}
 use Rattle.dcpi_top.specs.Refusals.{status_in, status_of}
@@ -38,7 +38,6 @@ use Rattle.dcpi_top.specs.Answers.{Serves}
 use Rattle.dcpi_top.proofs.Heading.{good_head}
 use Rattle.dcpi_top.proofs.KnownLaws.{Known}
 use Rattle.dcpi_top.proofs.Replayed.{of_told}
-use Rattle.dcpi_top.proofs.Stopping.{no_stop}
 
 -- a trace has no first bad line
 pub no_bad_line : Known → (o : Option (List ℕ)) (line : ℕ) (why : TraceWhy) (recording : Recording) → IfSome o (λ bytes. FirstBad bytes line why)
@@ -114,7 +113,7 @@ goes_through laws input disk fault before run sound =
     let one : run.recording ≡ sound.recording = same_trace laws input.old run.recording sound.recording run.reads sound.reads in
     let same : run.head ≡ sound.head = same_head laws disk.old sound.files run.head sound.head run.opened sound.told sound.has_head in
     let (g, now, (parts, at)) = run.stops sound.files sound.told in
-    no_stop laws sound.recording (run_of sound.recording sound.head) parts sound.head sound.files g fault
+    laws.no_stop sound.recording (run_of sound.recording sound.head) parts sound.head sound.files g fault
     (images_apart input.old sound.recording sound.reads) sound.fits before
     (subst (λ h. StopsAt sound.recording (run_of sound.recording h) parts h sound.files g fault) same
     (subst (λ r. StopsAt r (run_of r run.head) parts run.head sound.files g fault) one at))
@@ -147,6 +146,7 @@ file_is_good laws Tidy input disk file cause sound = elim cause.2 [
   | inl head ↦ told_good disk.old sound.0 file head.bad sound.1
   | inr bad ↦ bad
 ]
+file_is_good laws (Make seed samples trace) input disk file cause sound = cause.0
 
 -- the line of a trace is not bad
 line_is_good : Known → (command : Command) (input : Stream) (disk : Disk) (line : ℕ) (why : TraceWhy) → IsCause command input disk (TraceBad line why)
@@ -158,6 +158,7 @@ line_is_good laws (ProfProcedure epochs event csv) input disk line why cause sou
 line_is_good laws Cat input disk line why cause sound = cause.0
 line_is_good laws Runs input disk line why cause sound = cause.0
 line_is_good laws Tidy input disk line why cause sound = cause.0
+line_is_good laws (Make seed samples trace) input disk line why cause sound = cause.0
 
 -- nor is that of a symbol list
 symbol_is_good : Known → (command : Command) (input : Stream) (disk : Disk) (line : ℕ) (why : SymbolWhy) → IsCause command input disk (SymbolBad line why)
@@ -169,6 +170,7 @@ symbol_is_good laws (ProfProcedure epochs event csv) input disk line why cause s
 symbol_is_good laws Cat input disk line why cause sound = cause.0
 symbol_is_good laws Runs input disk line why cause sound = cause.0
 symbol_is_good laws Tidy input disk line why cause sound = cause.0
+symbol_is_good laws (Make seed samples trace) input disk line why cause sound = cause.0
 
 -- the epoch is there
 epoch_is_there : Known → (command : Command) (input : Stream) (disk : Disk) (epoch last : ℕ) → IsCause command input disk (NoSuchEpoch epoch last)
@@ -180,6 +182,7 @@ epoch_is_there laws (ProfProcedure epochs event csv) input disk epoch last cause
 epoch_is_there laws Cat input disk epoch last cause sound = cause.0
 epoch_is_there laws Runs input disk epoch last cause sound = cause.0
 epoch_is_there laws Tidy input disk epoch last cause sound = cause.0
+epoch_is_there laws (Make seed samples trace) input disk epoch last cause sound = cause.0
 
 -- there is room
 room_is_there : Known → (command : Command) (input : Stream) (disk : Disk) (what : Rattle.database_state.specs.declared.faults.FullWhat.FullWhat) (held added : ℕ)
@@ -191,6 +194,7 @@ room_is_there laws (ProfProcedure epochs event csv) input disk what held added c
 room_is_there laws Cat input disk what held added cause sound = cause.1
 room_is_there laws Runs input disk what held added cause sound = cause.1
 room_is_there laws Tidy input disk what held added cause sound = cause.1
+room_is_there laws (Make seed samples trace) input disk what held added cause sound = cause.1
 
 -- what was refused has a status of a fault or of memory
 refused_soundly : Known → (command : Command) (input : Stream) (disk : Disk) (refusal : Refusal) → IsCause command input disk refusal → IsSound command input disk

@@ -1,4 +1,4 @@
--- A run that keeps the limits stops nowhere.
+-- A part that grew within the limits did not stop.
 use Rattle.std.proofs.Common.{◌≡◌, ◌≤◌, ◌+◌, inl, inr, ℕ, zero, suc, true, List, length, sym, subst, ap, arith, ◌∙◌, add-one}
 use Rattle.std.proofs.lemmas.List.{length-append}
 use Rattle.std.proofs.Math.Nat.{eq-or-lt_of_le}
@@ -61,25 +61,6 @@ no_rows laws recording kept parts begin f g fault at held added before after ste
     let one : rows.next ≡ after = laws.next_head images (additions_of images records segment.drains) (epoch_after_parts kept.first_epoch records (suc parts)) segment
     at.head rows.next after next grows in
     omega (arith, rows.total, rows.over, few, ap row_count one)
-
--- A run that keeps the limits stops at no part.
-pub no_stop : Known → (recording : Recording) (kept : Recorded) (parts : ℕ) (begin : Head) (f g : Files) (fault : DbFault)
-    → IsDistinct bytes_eq recording.images → KeepsLimits recording.images (records_in recording) kept begin (database_of begin f)
-    → is_found_before fault ≡ true → StopsAt recording kept parts begin f g fault → ⊥
-no_stop laws recording kept parts begin f g faults.StoreFault distinct keeps before at = absurd (cc)
-no_stop laws recording kept parts begin f g (faults.Bad file) distinct keeps before at =
-    let fits = keeps (suc parts) (omega (arith, at.there)) in
-    no_part laws recording kept parts begin f g (faults.Bad file) at (faults.Bad file) fits.grown.steps.0 fits.after distinct fits.grown.steps.1 fits.grown.steps.2
-    fits.within.images at.cause
-no_stop laws recording kept parts begin f g (faults.Full what held added) distinct keeps before at =
-    let fits = keeps (suc parts) (omega (arith, at.there)) in
-    elim at.cause [
-      | inl stops ↦ no_part laws recording kept parts begin f g (faults.Full what held added) at (faults.Full what held added)
-          fits.grown.steps.0 fits.after distinct fits.grown.steps.1 fits.grown.steps.2 fits.within.images stops
-      | inr rows ↦ no_rows laws recording kept parts begin f g (faults.Full what held added) at held added
-          fits.heads.0 fits.head_after fits.heads.1 fits.heads.2 fits.within.rows rows.1
-    ]
-no_stop laws recording kept parts begin f g faults.Memory distinct keeps before at = absurd (cc)
 
 -- the database after the first parts, on the way to one after more
 pub prefix : (images : List (List ℕ)) (records : List Record) (kept : Recorded) (m n : ℕ) (db new : Database) → m ≤ n

@@ -4,7 +4,7 @@ use Rattle.std.specs.declared.option.Option.{Option}
 use Rattle.std.specs.declared.option.Option.TheVariants.{Some}
 use Rattle.store_io.specs.Files.{Files}
 use Rattle.dcpi_top.specs.declared.commands.Command.{Command}
-use Rattle.dcpi_top.specs.declared.commands.Command.TheVariants.{Plain, Replay, ProfImage, ProfProcedure, Cat, Runs, Tidy}
+use Rattle.dcpi_top.specs.declared.commands.Command.TheVariants.{Plain, Replay, ProfImage, ProfProcedure, Cat, Runs, Tidy, Make}
 use Rattle.dcpi_top.specs.Streams.{Stream}
 use Rattle.dcpi_top.specs.Moments.{LeavesAtAnyMoment}
 use Rattle.dcpi_top.proofs.Replayed.{unwritten}
@@ -21,3 +21,4 @@ unprinted files moment left_since Cat input old new leaves = leaves
 unprinted files moment left_since Runs input old new leaves = leaves
 unprinted files moment left_since Tidy input old new (inl reads) = inl reads
 unprinted files moment left_since Tidy input old new (inr leaves) = inr (unwritten_number files moment left_since old new leaves)
+unprinted files moment left_since (Make seed samples trace) input old new leaves = leaves

@@ -16,7 +16,7 @@ use Rattle.report_text.specs.declared.epochs.Epochs.{Epochs}
 use Rattle.report_text.specs.declared.epochs.Epochs.TheVariants.{One}
 use Rattle.dcpiprof_report.specs.Reading.{first_bad, wanted}
 use Rattle.dcpi_top.specs.declared.commands.Command.{Command}
-use Rattle.dcpi_top.specs.declared.commands.Command.TheVariants.{Plain, Replay, ProfImage, ProfProcedure, Cat, Runs, Tidy}
+use Rattle.dcpi_top.specs.declared.commands.Command.TheVariants.{Plain, Replay, ProfImage, ProfProcedure, Cat, Runs, Tidy, Make}
 use Rattle.dcpi_top.specs.declared.refusals.Refusal.{Refusal}
 use Rattle.dcpi_top.specs.declared.refusals.Refusal.TheVariants.{Usage, TraceBad, ReadFault, StoreFault, WriteFault, Memory, DatabaseBad, Full, SymbolBad, NoSuchEpoch}
 use Rattle.dcpi_top.specs.Streams.{Stream, Disk, KeepsCount, HasFailed, IsUntouched}
@@ -27,6 +27,7 @@ use Rattle.dcpi_top.specs.Replays.{IsReplayText, StopsRun}
 use Rattle.counts_listing.specs.Counting.{IsTextOf}
 use Rattle.dcpi_top.specs.Listings.{IsImageText, IsProcedureText, IsRunsTextOf, IsWholeText, bad_profile, bad_segment}
 use Rattle.dcpi_top.specs.Tidies.{IsTidyText, MayBeTidied}
+use Rattle.dcpi_top.specs.Makes.{IsMadeAnswer}
 
 -- the command reads a trace
 abbrev pub ReadsTrace : Command → Type 0
@@ -37,6 +38,7 @@ ReadsTrace (ProfProcedure epochs event csv) = ⊥
 ReadsTrace Cat = ⊥
 ReadsTrace Runs = ⊥
 ReadsTrace Tidy = ⊥
+ReadsTrace (Make seed samples trace) = ⊥
 
 -- it reads a symbol list
 abbrev pub ReadsSymbols : Command → Type 0
@@ -47,6 +49,7 @@ ReadsSymbols (ProfProcedure epochs event csv) = Unit {0}
 ReadsSymbols Cat = ⊥
 ReadsSymbols Runs = ⊥
 ReadsSymbols Tidy = ⊥
+ReadsSymbols (Make seed samples trace) = ⊥
 
 -- it opens a database
 abbrev pub UsesStore : Command → Type 0
@@ -57,6 +60,7 @@ UsesStore (ProfProcedure epochs event csv) = Unit {0}
 UsesStore Cat = Unit {0}
 UsesStore Runs = Unit {0}
 UsesStore Tidy = Unit {0}
+UsesStore (Make seed samples trace) = ⊥
 
 -- a text of `plain`: the input was read to its end
 pub record IsPlainDone (input : Stream) (text : List ℕ) : Type 0 where
@@ -73,13 +77,15 @@ IsText (ProfProcedure epochs event csv) input disk text =
 IsText Cat input disk text = IsWholeText bad_profile IsTextOf disk text
 IsText Runs input disk text = IsWholeText bad_segment IsRunsTextOf disk text
 IsText Tidy input disk text = IsTidyText disk text
+IsText (Make seed samples trace) input disk text = IsMadeAnswer seed samples trace text
 
 -- the input is not read, and the files stay
 abbrev pub OnlyListsFiles : Stream → Disk → Type 0
 OnlyListsFiles input disk = IsUntouched input × (disk.new ≡ disk.old)
 
 -- What a command leaves as it was, whatever it answers: only a replay changes the database, and only a trace or a symbol list is
--- read from the input. A tidying removes some first of the files that the database does not use, if any.
+-- read from the input. A tidying removes some first of the files that the database does not use, if any; to make a trace touches
+-- nothing.
 abbrev pub LeavesAlone : Command → Stream → Disk → Type 0
 LeavesAlone Plain input disk = IsUntouched disk
 LeavesAlone Replay input disk = Unit {0}
@@ -88,12 +94,14 @@ LeavesAlone (ProfProcedure epochs event csv) input disk = disk.new ≡ disk.old
 LeavesAlone Cat input disk = OnlyListsFiles input disk
 LeavesAlone Runs input disk = OnlyListsFiles input disk
 LeavesAlone Tidy input disk = IsUntouched input × MayBeTidied disk
+LeavesAlone (Make seed samples trace) input disk = IsUntouched input × IsUntouched disk
 
 -- the database was opened, and these epochs are there
 abbrev pub HasEpochs : Epochs → Disk → Type 0
 HasEpochs epochs disk = (head : Head) × OpenedWith disk head × AreThere epochs head
 
--- what comes before a command reads its input: it opened its database, if it uses one, and the epochs that it asks for are there
+-- What comes before a command reads its input: it opened its database, if it uses one, and the epochs that it asks for are there.
+-- A command that makes a trace never comes to read.
 abbrev pub IsBegun : Command → Disk → Type 0
 IsBegun Plain disk = Unit {0}
 IsBegun Replay disk = IsOpened disk
@@ -102,6 +110,7 @@ IsBegun (ProfProcedure epochs event csv) disk = HasEpochs epochs disk
 IsBegun Cat disk = IsOpened disk
 IsBegun Runs disk = IsOpened disk
 IsBegun Tidy disk = IsOpened disk
+IsBegun (Make seed samples trace) disk = ⊥
 
 -- the epoch that is asked for is above the last one
 pub record LacksEpoch (epochs : Epochs) (disk : Disk) (epoch last : ℕ) : Type 0 where
@@ -120,6 +129,7 @@ IsMissing (ProfProcedure epochs event csv) disk epoch last = LacksEpoch epochs d
 IsMissing Cat disk epoch last = ⊥
 IsMissing Runs disk epoch last = ⊥
 IsMissing Tidy disk epoch last = ⊥
+IsMissing (Make seed samples trace) disk epoch last = ⊥
 
 -- a file of a row that is wanted is missing or not in its form, and is the first such one
 pub record ReadsBad (epochs : Epochs) (event : ℕ) (disk : Disk) (file : FileRef) : Type 0 where
@@ -151,6 +161,7 @@ FindsBad (ProfProcedure epochs event csv) input disk file =
 FindsBad Cat input disk file = FindsFirst bad_profile disk file
 FindsBad Runs input disk file = FindsFirst bad_segment disk file
 FindsBad Tidy input disk file = ⊥
+FindsBad (Make seed samples trace) input disk file = ⊥
 
 -- the head of the greatest sealed generation is bad, and nothing else was done
 pub record StopsAtHead (input : Stream) (disk : Disk) (file : FileRef) : Type 0 where
@@ -167,6 +178,7 @@ IsFull (ProfProcedure epochs event csv) input disk what held added = ⊥
 IsFull Cat input disk what held added = ⊥
 IsFull Runs input disk what held added = ⊥
 IsFull Tidy input disk what held added = ⊥
+IsFull (Make seed samples trace) input disk what held added = ⊥
 
 -- no fault of the input or the store was counted
 abbrev pub KeepsCounts : Stream → Disk → Type 0

@@ -6,6 +6,7 @@ pub mod Commands
 pub mod Heads
 pub mod Inputs
 pub mod Listings
+pub mod Makes
 pub mod Messages
 pub mod Moments
 pub mod Owing

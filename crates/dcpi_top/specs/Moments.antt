@@ -5,7 +5,7 @@ use Rattle.std.specs.declared.option.Option.TheVariants.{Some, None}
 use Rattle.store_io.specs.Files.{Files}
 use Rattle.store_io.specs.Crashes.{OnlyReads}
 use Rattle.dcpi_top.specs.declared.commands.Command.{Command}
-use Rattle.dcpi_top.specs.declared.commands.Command.TheVariants.{Plain, Replay, ProfImage, ProfProcedure, Cat, Runs, Tidy}
+use Rattle.dcpi_top.specs.declared.commands.Command.TheVariants.{Plain, Replay, ProfImage, ProfProcedure, Cat, Runs, Tidy, Make}
 use Rattle.dcpi_top.specs.Streams.{Stream}
 use Rattle.dcpi_top.specs.Replays.{LeavesParts}
 use Rattle.dcpi_top.specs.Tidies.{LeavesDatabase}
@@ -38,3 +38,5 @@ LeavesAtAnyMoment files moment left_since (Some Runs) input old new status =
 LeavesAtAnyMoment files moment left_since (Some Tidy) input old new status =
     ReadsOnly files moment left_since old new
     ⊎ LeavesDatabase files moment left_since old new status
+LeavesAtAnyMoment files moment left_since (Some (Make seed samples trace)) input old new status =
+    ReadsOnly files moment left_since old new

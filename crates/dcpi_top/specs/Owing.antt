@@ -15,7 +15,7 @@ use Rattle.report_text.specs.declared.epochs.Epochs.{Epochs}
 use Rattle.report_text.specs.declared.epochs.Epochs.TheVariants.{One}
 use Rattle.dcpiprof_report.specs.Reading.{first_bad, wanted}
 use Rattle.dcpi_top.specs.declared.commands.Command.{Command}
-use Rattle.dcpi_top.specs.declared.commands.Command.TheVariants.{Plain, Replay, ProfImage, ProfProcedure, Cat, Runs, Tidy}
+use Rattle.dcpi_top.specs.declared.commands.Command.TheVariants.{Plain, Replay, ProfImage, ProfProcedure, Cat, Runs, Tidy, Make}
 use Rattle.dcpi_top.specs.declared.refusals.Refusal.{Refusal}
 use Rattle.dcpi_top.specs.declared.refusals.Refusal.TheVariants.{Usage, TraceBad, ReadFault, StoreFault, WriteFault, Memory, DatabaseBad, Full, SymbolBad, NoSuchEpoch}
 use Rattle.dcpi_top.specs.Streams.{Stream, Disk}
@@ -29,7 +29,7 @@ use Rattle.dcpi_top.specs.Causes.{ReadsSymbols, ReadsTrace, UsesStore}
 abbrev pub HasToldEpochs : Epochs → Disk → Type 0
 HasToldEpochs epochs disk = (head : Head) × IsToldHead disk head × AreThere epochs head
 
--- what comes before a command reads its input is told to be good
+-- what comes before a command reads its input is told to be good; one that makes a trace never comes to read
 abbrev pub IsToldBegun : Command → Disk → Type 0
 IsToldBegun Plain disk = Unit {0}
 IsToldBegun Replay disk = (head : Head) × IsToldHead disk head
@@ -38,6 +38,7 @@ IsToldBegun (ProfProcedure epochs event csv) disk = HasToldEpochs epochs disk
 IsToldBegun Cat disk = (head : Head) × IsToldHead disk head
 IsToldBegun Runs disk = (head : Head) × IsToldHead disk head
 IsToldBegun Tidy disk = (head : Head) × IsToldHead disk head
+IsToldBegun (Make seed samples trace) disk = ⊥
 
 -- the files are told to have a head, and the epoch that is asked for is above its last one
 pub record ToldLacks (epochs : Epochs) (disk : Disk) (epoch last : ℕ) : Type 0 where
@@ -55,6 +56,7 @@ IsToldMissing (ProfProcedure epochs event csv) disk epoch last = ToldLacks epoch
 IsToldMissing Cat disk epoch last = ⊥
 IsToldMissing Runs disk epoch last = ⊥
 IsToldMissing Tidy disk epoch last = ⊥
+IsToldMissing (Make seed samples trace) disk epoch last = ⊥
 
 -- The files are told to have a head under which the epochs are there; this is the first bad file of the rows that are wanted, if
 -- one is bad.
@@ -91,6 +93,7 @@ MustFind (ProfProcedure epochs event csv) input disk file =
 MustFind Cat input disk file = ToldWhole bad_profile disk (Some file)
 MustFind Runs input disk file = ToldWhole bad_segment disk (Some file)
 MustFind Tidy input disk file = ⊥
+MustFind (Make seed samples trace) input disk file = ⊥
 
 -- a part of the run is told to have no room: for an image, for a count, or for the rows of the head
 abbrev pub MustBeFull : Command → Stream → Disk → FullWhat → ℕ → ℕ → Type 0
@@ -101,6 +104,7 @@ MustBeFull (ProfProcedure epochs event csv) input disk what held added = ⊥
 MustBeFull Cat input disk what held added = ⊥
 MustBeFull Runs input disk what held added = ⊥
 MustBeFull Tidy input disk what held added = ⊥
+MustBeFull (Make seed samples trace) input disk what held added = ⊥
 
 -- The refusal has its cause by what the input and the store tell, and no cause comes before it.
 abbrev pub IsOwed : Command → Stream → Disk → Refusal → Type 0
@@ -118,7 +122,7 @@ IsOwed command input disk (SymbolBad line why) =
     ReadsSymbols command × IsToldBegun command disk × IsToldBadSymbol input line why
 IsOwed command input disk (NoSuchEpoch epoch last) = IsToldMissing command disk epoch last
 
--- All that the command reads is told and good, and a replay keeps the limits of the database.
+-- All that the command reads is told and good, and a replay keeps the limits of the database. To make a trace asks for nothing.
 abbrev pub IsSound : Command → Stream → Disk → Type 0
 IsSound Plain input disk = (recording : Recording) × IsToldTrace input recording
 IsSound Replay input disk = IsSoundReplay input disk
@@ -128,6 +132,7 @@ IsSound (ProfProcedure epochs event csv) input disk =
 IsSound Cat input disk = ToldWhole bad_profile disk None
 IsSound Runs input disk = ToldWhole bad_segment disk None
 IsSound Tidy input disk = (head : Head) × IsToldHead disk head
+IsSound (Make seed samples trace) input disk = Unit {0}
 
 -- a fault of an object, or want of memory
 abbrev pub IsFree : Refusal → Type 0

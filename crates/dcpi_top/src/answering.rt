@@ -2,7 +2,7 @@
 ghost use Rattle.std.specs.Prelude.{◌≡◌, Some, map, string_bytes};
 ghost use Rattle.dcpi_top.specs.Answers.{Answers, ServesCall};
 ghost use Rattle.dcpi_top.specs.Causes.{GivesText, LeavesAlone};
-ghost use Rattle.dcpi_top.specs.Commands.{command_of};
+ghost use Rattle.dcpi_top.specs.Commands.{MakesFew, command_of};
 ghost use Rattle.dcpi_top.specs.Moments.{LeavesAtAnyMoment};
 ghost use Rattle.dcpi_top.specs.Refusals.{refused, status_in};
 ghost use Rattle.dcpi_top.specs.Streams.{seen};
@@ -10,6 +10,7 @@ ghost use Rattle.dcpi_top.specs.Streams.{seen};
 use crate::commands::{Command, words_of};
 use crate::laws::laws;
 use crate::listings::{counts_of, image_text, procedure_text, runs_of};
+use crate::makes::make_text;
 use crate::messages::tell;
 use crate::plains::plain_text;
 use crate::refusals::Refusal;
@@ -87,6 +88,7 @@ fn text_for<S: Source, D: Store>(
     source: &mut S,
     store: &mut D,
 ) -> Result<Vec<u8>, Refusal>
+    requires few { MakesFew command }
     ensures gives { GivesText (λ text. text.items) command
         (seen S.left S.faults source.old source.new)
         (seen D.files D.faults store.old store.new) result }
@@ -107,5 +109,10 @@ fn text_for<S: Source, D: Store>(
         Command::Cat => counts_of(alloc, store),
         Command::Runs => runs_of(alloc, store),
         Command::Tidy => tidy_text(alloc, store),
+        Command::Make {
+            seed,
+            samples,
+            trace,
+        } => make_text(alloc, seed, samples, trace),
     }
 }

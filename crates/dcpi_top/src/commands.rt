@@ -1,9 +1,10 @@
 //! The forms of commands.
-ghost use Rattle.std.specs.Prelude.{◌≡◌, map, string_bytes};
-ghost use Rattle.dcpi_top.specs.Commands.{command_alone, command_listing, command_of, command_on, csv_named, epochs_named, listing_named, listing_of};
+ghost use Rattle.std.specs.Prelude.{◌≡◌, map, option_and_then, string_bytes};
+ghost use Rattle.text_num.specs.Numbers.{number};
+ghost use Rattle.dcpi_top.specs.Commands.{command_alone, command_listing, command_making, command_of, command_on, command_tracing, csv_named, epochs_named, listing_named, listing_of, making_of, samples_in};
 
 use dcpiprof_report::Epochs;
-use sample_key::Event;
+use sample_key::{Event, MOST_SAMPLES};
 use text_num::read_dec;
 
 /// What the words ask for.
@@ -37,10 +38,19 @@ pub enum Command {
     Runs,
     /// Remove the files that the database does not use, and print how many they were.
     Tidy,
+    /// Make the trace of a seed, and print the summary of its run, as the first one into an empty database, or the trace.
+    Make {
+        /// The number that determines the trace.
+        seed: u64,
+        /// How many samples it has, at most 2,000,000.
+        samples: u32,
+        /// Whether the trace is printed, else the summary.
+        trace: bool,
+    },
 }
 
-/// The command of the words behind the program's name; `None` where they have no form of a command. The second word is the
-/// database, and may be any word.
+/// The command of the words behind the program's name; `None` where they have no form of a command. Where a command has a
+/// database, the second word names it, and may be any word.
 pub fn words_of(words: &Vec<String>) -> Option<Command>
     ensures { result ≡ command_of (map string_bytes words.now.items) }
 {
@@ -48,8 +58,15 @@ pub fn words_of(words: &Vec<String>) -> Option<Command>
         [] => None,
         [word] => command_alone(word.as_bytes()),
         [word, _] => command_on(word.as_bytes()),
-        [_, _, _] => None,
-        [_, _, _, _] => None,
+        [word, seed, samples] => {
+            command_making(word.as_bytes(), seed.as_bytes(), samples.as_bytes())
+        }
+        [word, seed, samples, form] => command_tracing(
+            word.as_bytes(),
+            seed.as_bytes(),
+            samples.as_bytes(),
+            form.as_bytes(),
+        ),
         [_, _, _, _, _] => None,
         [word, _, kind, epoch, event, form] => command_listing(
             word.as_bytes(),
@@ -86,6 +103,52 @@ fn command_on(word: &[u8]) -> Option<Command>
     } else {
         None
     }
+}
+
+fn command_making(word: &[u8], seed: &[u8], samples: &[u8]) -> Option<Command>
+    ensures { result ≡ command_making word.now seed.now samples.now }
+{
+    if word == b"make".as_slice() {
+        making_of(seed, samples, false)
+    } else {
+        None
+    }
+}
+
+fn command_tracing(word: &[u8], seed: &[u8], samples: &[u8], form: &[u8]) -> Option<Command>
+    ensures { result ≡ command_tracing word.now seed.now samples.now form.now }
+{
+    if form == b"--trace".as_slice() {
+        if word == b"make".as_slice() {
+            making_of(seed, samples, true)
+        } else {
+            None
+        }
+    } else {
+        None
+    }
+}
+
+fn making_of(seed: &[u8], samples: &[u8], trace: bool) -> Option<Command>
+    ensures { result ≡ making_of seed.now samples.now trace }
+{
+    let seed = read_dec(seed)?;
+    let samples = samples_named(samples)?;
+    Some(Command::Make {
+        seed,
+        samples,
+        trace,
+    })
+}
+
+fn samples_named(word: &[u8]) -> Option<u32>
+    ensures { result ≡ option_and_then samples_in (number 10 word.now) }
+{
+    let samples = read_dec(word)?;
+    if samples > MOST_SAMPLES {
+        return None;
+    }
+    Some(samples as u32)
 }
 
 fn command_listing(

@@ -7,9 +7,11 @@ ghost use Rattle.database_state.specs.Heads as heads;
 ghost use Rattle.database_state.specs.Standing.{HaveHead};
 ghost use Rattle.growth_model.specs.Laws.{FirstHeadsAreOne, FirstPartsAreOne, OneHeadIsOne};
 ghost use Rattle.profile_merge.specs.Laws.{GrowthHasNoFault};
+ghost use Rattle.made_runs.specs.Stopping.{FittingRunsDoNotStop};
 
 use epoch_store::files_stand_for_one_database;
 use growth_model::{growth_is_determined, heads_are_determined};
+use made_runs::fitting_runs_do_not_stop;
 use profile_merge::growth_has_no_fault;
 
 /// An input has one reading, files have one head, and what a run makes of a database is determined.
@@ -25,6 +27,7 @@ pub(crate) fn laws()
     ensures next_head { OneHeadIsOne }
     ensures first_heads { FirstHeadsAreOne }
     ensures no_fault { GrowthHasNoFault }
+    ensures no_stop { FittingRunsDoNotStop }
 {
     trace_laws::one_reading();
     symbol_ranges::one_reading();
@@ -32,4 +35,5 @@ pub(crate) fn laws()
     growth_is_determined();
     heads_are_determined();
     growth_has_no_fault();
+    fitting_runs_do_not_stop();
 }

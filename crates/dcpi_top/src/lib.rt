@@ -6,6 +6,7 @@ mod answering;
 mod commands;
 mod laws;
 mod listings;
+mod makes;
 mod messages;
 mod plains;
 mod refusals;

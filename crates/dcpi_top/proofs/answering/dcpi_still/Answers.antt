@@ -26,6 +26,7 @@ returns-in-Ok-clause-answers g c =
       next_head = c.laws.ensures.next_head;
       first_heads = c.laws.ensures.first_heads;
       no_fault = c.laws.ensures.no_fault;
+      no_stop = c.laws.ensures.no_stop;
     } in
     answered laws call None c.in-Ok.ensures.serves (record { same = refl; faults = refl }) (omega arith)
 
@@ -49,6 +50,7 @@ returns-in-Err-clause-answers g c =
       next_head = c.laws.ensures.next_head;
       first_heads = c.laws.ensures.first_heads;
       no_fault = c.laws.ensures.no_fault;
+      no_stop = c.laws.ensures.no_stop;
     } in
     subst (Answers call) (sym c.status.ensures)
     (answered laws call (Some c.in-Err.refusal) c.in-Err.ensures.serves c.tell.ensures.told c.tell.ensures.counts)

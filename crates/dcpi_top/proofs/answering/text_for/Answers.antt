@@ -45,3 +45,11 @@ pub returns-in-Tidy-clause-any_moment : goal.returns-in-Tidy-clause-any_moment
 returns-in-Tidy-clause-any_moment g c = subst (λ command. LeavesAtAnyMoment g.D.Store.files g.D.Store.moment g.D.Store.left_since (Some command)
     (seen g.S.Source.left g.S.Source.faults c.args.source.now c.args.source.now) c.args.store.now c.tidy_text.new.store (status_in (refused c.tidy_text.result))) (sym c.in-Tidy.is)
     (c.tidy_text.ensures.leaves (seen g.S.Source.left g.S.Source.faults c.args.source.now c.args.source.now))
+
+pub returns-in-Make-clause-gives : goal.returns-in-Make-clause-gives
+returns-in-Make-clause-gives g c = subst (λ command. GivesText (λ text. text.items) command
+    (seen g.S.Source.left g.S.Source.faults c.args.source.now c.args.source.now)
+    (seen g.D.Store.files g.D.Store.faults c.args.store.now c.args.store.now) c.make_text.result) (sym c.in-Make.is)
+    (c.make_text.ensures (seen g.S.Source.left g.S.Source.faults c.args.source.now c.args.source.now)
+    (seen g.D.Store.files g.D.Store.faults c.args.store.now c.args.store.now)
+    (record { same = refl; faults = refl }) (record { same = refl; faults = refl }))
