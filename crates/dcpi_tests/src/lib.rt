@@ -6,6 +6,8 @@ mod crashes;
 #[cfg(test)]
 mod listings;
 #[cfg(test)]
+mod makes;
+#[cfg(test)]
 mod plain;
 #[cfg(test)]
 mod refusals;

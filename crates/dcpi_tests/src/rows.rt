@@ -30,6 +30,18 @@ pub fn gives(
     row: &Row<'_>,
     store: &mut MemStore,
 ) -> Result<(), Fail> {
+    let out = prints(rt, alloc, row, store)?;
+    assert_eq!(rt; out.as_slice(), row.out);
+    Ok(())
+}
+
+/// Makes the call over a store, compares the status and the bytes of the error output, and gives those of the output.
+pub fn prints(
+    rt: &impl Abort,
+    alloc: Global,
+    row: &Row<'_>,
+    store: &mut MemStore,
+) -> Result<Vec<u8>, Fail> {
     let mut words = Vec::new(alloc);
     for word in row.words {
         words.push(String::from_str(alloc, word)?)?;
@@ -43,8 +55,7 @@ pub fn gives(
     let status = dcpi_still(alloc, &words, &mut source, store, &mut out, &mut err);
     assert_eq!(rt; err.bytes(), row.err);
     assert_eq!(rt; status, row.status);
-    assert_eq!(rt; out.bytes(), row.out);
-    Ok(())
+    Ok(out.bytes().to_vec(alloc)?)
 }
 
 /// Makes each call over one store that fails at no call.
