@@ -1,5 +1,5 @@
 -- A part that grew within the limits did not stop.
-use Rattle.std.proofs.Common.{◌≡◌, ◌≤◌, ◌+◌, inl, inr, ℕ, zero, suc, true, List, length, sym, subst, ap, arith, ◌∙◌, add-one}
+use Rattle.std.proofs.Common.{◌≡◌, ◌≤◌, ◌+◌, inl, inr, ℕ, zero, suc, List, length, sym, subst, ap, arith, ◌∙◌, add-one}
 use Rattle.std.proofs.lemmas.List.{length-append}
 use Rattle.std.proofs.Math.Nat.{eq-or-lt_of_le}
 use Rattle.std.specs.List.{IsDistinct}
@@ -14,12 +14,11 @@ use Rattle.database_state.specs.Database.{Database}
 use Rattle.database_state.specs.Heads.{Head, row_count}
 use Rattle.database_state.specs.Standing.{database_of}
 use Rattle.database_state.specs.declared.faults.DbFault.{DbFault}
-use Rattle.database_state.specs.declared.faults.DbFault.TheVariants as faults
 use Rattle.growth_model.specs.Additions.{additions_of}
 use Rattle.growth_model.specs.Growth.{Grows, GrowsByPart}
 use Rattle.growth_model.specs.Grown.{GrowsTo, epoch_after_parts}
-use Rattle.growth_model.specs.Fitting.{HeadGrows, HeadGrowsTo, KeepsLimits}
-use Rattle.dcpid_core.specs.Storing.{HasNoRows, StopsPart, is_found_before}
+use Rattle.growth_model.specs.Fitting.{HeadGrows, HeadGrowsTo}
+use Rattle.dcpid_core.specs.Storing.{HasNoRows, StopsPart}
 use Rattle.replay_drive.specs.Growing.{StopsAt, part_at}
 use Rattle.dcpi_top.proofs.Heading.{head_holds}
 use Rattle.dcpi_top.proofs.KnownLaws.{Known}
