@@ -86,12 +86,22 @@ fn texts_are_read_back(rt: HostRuntime) -> Result<(), Fail> {
     gives_all(&rt, alloc, &[NONE_REPLAYED])?;
     let summary = prints(&rt, alloc, &A_THOUSAND, &mut sound_store(alloc))?;
     let text = prints(&rt, alloc, &A_THOUSAND_PRINTED, &mut sound_store(alloc))?;
+    replays_to(&rt, alloc, &text, &summary)
+}
+
+// The replay of this text into an empty database has this summary.
+fn replays_to<'a>(
+    rt: &impl Abort,
+    alloc: Global,
+    text: &'a [u8],
+    summary: &'a [u8],
+) -> Result<(), Fail> {
     let replayed = Row {
-        input: &text,
-        out: &summary,
+        input: text,
+        out: summary,
         ..REPLAYED
     };
-    gives_all(&rt, alloc, &[replayed])
+    gives_all(rt, alloc, &[replayed])
 }
 
 const NOT_WRITTEN: Row = Row {
