@@ -50,7 +50,7 @@ by_cause command input disk output (Some r) owed (inr failed) no_text causes = a
 -- ---- what is told, and what was found
 
 -- an input with a bad line reads as no trace
-no_trace : Known → (o : Option (List ℕ)) (line : ℕ) (why : TraceWhy) (recording : Recording) → IfSome o (λ bytes. Reads bytes recording)
+pub no_trace : Known → (o : Option (List ℕ)) (line : ℕ) (why : TraceWhy) (recording : Recording) → IfSome o (λ bytes. Reads bytes recording)
     → IsTold o (λ bytes. FirstBad bytes line why) → ⊥
 no_trace laws None line why recording reads told = told
 no_trace laws (Some bytes) line why recording reads told = laws.not_both bytes (recording, reads) (line, why, told)
@@ -60,7 +60,7 @@ no_listing : Known → (o : Option (List ℕ)) (line : ℕ) (why : TraceWhy) (te
 no_listing laws None line why text is told = told
 no_listing laws (Some bytes) line why text is told = laws.not_both bytes (is.recording, is.reads) (line, why, told)
 
-one_line : Known → (o : Option (List ℕ)) (a b : ℕ) (why other : TraceWhy) → IfSome o (λ bytes. FirstBad bytes a why)
+pub one_line : Known → (o : Option (List ℕ)) (a b : ℕ) (why other : TraceWhy) → IfSome o (λ bytes. FirstBad bytes a why)
     → IsTold o (λ bytes. FirstBad bytes b other) → TraceBad a why ≡ TraceBad b other
 one_line laws None a b why other bad told = absurd told
 one_line laws (Some bytes) a b why other bad told = let same = laws.one_refusal bytes a b why other bad told in λ i. TraceBad (same.0 i) (same.1 i)
@@ -76,7 +76,7 @@ one_symbol laws None a b why other bad told = absurd told
 one_symbol laws (Some bytes) a b why other bad told = let same = laws.one_symbol_refusal bytes a b why other bad told in λ i. SymbolBad (same.0 i) (same.1 i)
 
 -- a head that is told to be bad is not good
-told_bad : (o : Option Files) (h : Head) (file : FileRef) → IfSome o (λ f. HaveHead f h) → IsTold o (λ f. IsBadHead f file) → ⊥
+pub told_bad : (o : Option Files) (h : Head) (file : FileRef) → IfSome o (λ f. HaveHead f h) → IsTold o (λ f. IsBadHead f file) → ⊥
 told_bad None h file good told = told
 told_bad (Some f) h file good told = good_head f h file good told
 
@@ -84,7 +84,7 @@ told_same : Known → (o : Option Files) (h k : Head) → IfSome o (λ f. HaveHe
 told_same laws None h k opened told = absurd told
 told_same laws (Some f) h k opened told = laws.one_head f h k opened told
 
-one_head_file : (o : Option Files) (a b : FileRef) → IfSome o (λ f. IsBadHead f a) → IsTold o (λ f. IsBadHead f b) → DatabaseBad a ≡ DatabaseBad b
+pub one_head_file : (o : Option Files) (a b : FileRef) → IfSome o (λ f. IsBadHead f a) → IsTold o (λ f. IsBadHead f b) → DatabaseBad a ≡ DatabaseBad b
 one_head_file None a b bad told = absurd told
 one_head_file (Some f) a b bad told = ap DatabaseBad (one_bad_head f a b bad told)
 

@@ -160,7 +160,7 @@ leaves_run files counts moment left_since trace input head old new failure statu
 }
 
 -- before the first part
-none_yet : (trace : Recording) (kept : Recorded) (most : ℕ) (h : Head) (f c : Files) → HaveHead c h → database_of h c ≡ database_of h f
+pub none_yet : (trace : Recording) (kept : Recorded) (most : ℕ) (h : Head) (f c : Files) → HaveHead c h → database_of h c ≡ database_of h f
     → MayBeGrown trace kept 0 most (database_of h f) c
 none_yet trace kept most h f c has same = (
   0,

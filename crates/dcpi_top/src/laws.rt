@@ -15,7 +15,7 @@ use made_runs::fitting_runs_do_not_stop;
 use profile_merge::growth_has_no_fault;
 
 /// An input has one reading, files have one head, and what a run makes of a database is determined.
-pub(crate) fn laws()
+pub fn laws()
     ensures not_both { (bytes : List ℕ) → IsTrace bytes → IsRefused bytes → ⊥ }
     ensures one_trace { (bytes : List ℕ) → HasOneTrace bytes }
     ensures one_refusal { (bytes : List ℕ) → HasOneRefusal bytes }

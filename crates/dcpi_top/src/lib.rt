@@ -4,7 +4,7 @@
 
 mod answering;
 mod commands;
-mod laws;
+pub mod laws;
 mod listings;
 mod makes;
 mod messages;
