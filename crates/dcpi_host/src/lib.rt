@@ -1,9 +1,11 @@
 //! The words, the standard streams and the folder of a process, given to the top call. The programs are one line above it.
 #![tactic(auto)]
 
-use dcpi_top::dcpi_still;
-use outside_io::{StdSink, StdSource, put_all};
+use dcpi_run_top::dcpi;
+use outside_io::{OpenGate, StdSink, StdSource, put_all};
 use std::alloc::AllocError;
+use std::sync::Wait;
+use std::thread::Threads;
 use std::{env, io};
 use store_io::DirStore;
 
@@ -20,22 +22,25 @@ struct Given {
 }
 
 /// Serves the words of this process over its standard input, output and error output and the folder that the second word
-/// names, and answers the exit status of the top call. A word that is not UTF-8 is of no form, so the top call then gets no
-/// words and answers 1. Where no memory is found for the words, the line of that status is written and 6 is answered.
-pub fn serve_process(rt: &HostRuntime) -> u8 {
+/// names, by the threads that it is handed, and answers the exit status of the top call. A word that is not UTF-8 is of no
+/// form, so the top call then gets no words and answers 1. Where no memory is found for the words, the line of that status
+/// is written and 6 is answered.
+pub fn serve_process<T: Threads + Wait + Sync>(rt: &HostRuntime, threads: &T) -> u8 {
     let mut err = StdSink::new(rt.stderr());
     match found(rt) {
         Ok(Given { words, folder }) => {
             let mut source = StdSource::new(rt.stdin());
             let mut out = StdSink::new(rt.stdout());
             let mut store = DirStore::at(rt, folder);
-            dcpi_still(
+            dcpi(
+                threads,
                 rt.alloc(),
                 &words,
                 &mut source,
                 &mut store,
                 &mut out,
                 &mut err,
+                &OpenGate,
             )
         }
         Err(_) => {
