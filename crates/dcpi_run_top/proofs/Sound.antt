@@ -26,7 +26,6 @@ use Rattle.dcpi_top.specs.Replays.{IsReadInto}
 use Rattle.dcpi_top.specs.Streams.{Stream, Disk, HasFailed, seen}
 use Rattle.dcpi_top.proofs.KnownLaws.{Known}
 use Rattle.dcpi_top.proofs.Sound.{images_apart, no_bad_line, not_bad, same_head, same_trace}
-use Rattle.dcpi_top.proofs.Stopping.{no_stop}
 use Rattle.dcpi_run_top.specs.Answering.{IsSoundRun, ServesRun, record_left}
 use Rattle.dcpi_run_top.specs.Beginning.{IsCauseBefore}
 use Rattle.dcpi_run_top.specs.Runs.{HasRun, TellsRun}
@@ -67,7 +66,7 @@ module _ (laws : Known) {D : Type 0} (files : D → Option Files) (counts moment
       subst (λ (r : Recording). KeepsLimits r.images (records_in r) stops.kept begin (database_of begin f)) (sym one)
       (subst (λ h. KeepsLimits recording.images (records_in recording) stops.kept h (database_of h f)) (sym same) fits) in
       let (g, now, at) = stops.store.cause f fault is.told has refl before in
-      no_stop laws trace stops.kept stops.parts begin f g fault apart keeps before at
+      laws.no_stop trace stops.kept stops.parts begin f g fault apart keeps before at
 
   -- a run was made
   sound_made : (output : Stream) (refusal : Option Refusal) (result : Result Outcome DbFault)

@@ -27,6 +27,7 @@ returns-in-Ok-clause-answers g c =
       next_head = c.laws.ensures.next_head;
       first_heads = c.laws.ensures.first_heads;
       no_fault = c.laws.ensures.no_fault;
+      no_stop = c.laws.ensures.no_stop;
     } in
     answered laws g.D.Store.files g.D.Store.faults g.D.Store.moment g.D.Store.left_since c.args.pace call c.args.store.now c.print_run.new.store
     None c.in-Ok.ensures.serves (record { same = refl; faults = refl }) (omega arith)
@@ -51,6 +52,7 @@ returns-in-Err-clause-answers g c =
       next_head = c.laws.ensures.next_head;
       first_heads = c.laws.ensures.first_heads;
       no_fault = c.laws.ensures.no_fault;
+      no_stop = c.laws.ensures.no_stop;
     } in
     subst (AnswersRun g.D.Store.files g.D.Store.faults g.D.Store.moment g.D.Store.left_since c.args.pace call c.args.store.now c.print_run.new.store)
     (sym c.status.ensures)
