@@ -5,7 +5,7 @@ use crate::order::names_among;
 use crate::store::Store;
 use std::alloc::{AllocError, Global};
 use std::collections::BTreeSet;
-use std::fs::OpenFile;
+use std::fs::{OpenFile, OpenOptions};
 use std::io::Write;
 use std::rt::Files;
 use std::{fs, io};
@@ -154,20 +154,32 @@ fn listing<R: Files + AllocGlobal + Clone + Drop>(
     Ok(texts)
 }
 
+/// The bytes of a regular file, or of one that a link leads to. Nothing else is opened: the opening of a pipe would wait
+/// until somebody writes to it.
 fn read_file<R: Files + AllocGlobal>(rt: &R, path: &str) -> io::Result<Option<Vec<u8>>> {
-    match fs::read(rt, path) {
-        Ok(bytes) => Ok(Some(bytes)),
+    match fs::metadata(rt, path) {
+        Ok(entry) if entry.is_file() => Ok(Some(fs::read(rt, path)?)),
+        Ok(_) => Err(io::Error::from(io::ErrorKind::InvalidInput)),
         Err(fault) if fault.kind() == io::ErrorKind::NotFound => Ok(None),
         Err(fault) => Err(fault),
     }
 }
 
-/// Fills the file aside, brings it to the disk, and puts it in the place of what stood at the path.
+/// Fills the file aside, brings it to the disk, and puts it in the place of what stood at the path. What stood aside before
+/// is taken away, so that no link is written through and no pipe is opened.
 fn replace<R: Files>(rt: &R, aside: &str, path: &str, bytes: &[u8]) -> io::Result<()> {
-    let mut file = fs::create(rt, aside)?;
+    remove_file(rt, aside)?;
+    let mut file = open_new(rt, aside)?;
     file.write_all(bytes)?;
     file.sync_all()?;
     fs::rename(rt, aside, path)
+}
+
+/// Opens a file for writing where nothing stands yet.
+fn open_new<R: Files>(rt: &R, path: &str) -> io::Result<R::File> {
+    let mut options = OpenOptions::new();
+    options.write(true).create_new(true);
+    options.open(rt, path)
 }
 
 /// Takes a file away, and says whether it was there.
