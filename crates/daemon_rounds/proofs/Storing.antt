@@ -1,7 +1,6 @@
 -- What an advance leaves of the store, whatever the daemon drains later; and that it goes on.
 use Rattle.std.proofs.Common.{arith, ◌≡◌, ℕ, ◌+◌, ◌<◌, ◌≤◌, refl, sym, ◌∙◌, ap, subst, true, false, List, [], ◌∷◌, ◌++◌, Option, Some, None, append-nil, append_assoc, eqb}
 use Rattle.std.specs.Prelude.{take}
-use Rattle.std.proofs.lemmas.Bool.{cond-false}
 use Rattle.std.proofs.lemmas.List.Elements.{filter-append}
 use Rattle.sample_key.specs.declared.losses.Pace.{Pace}
 use Rattle.trace_model.specs.Parts.{epoch_after, part_of}
@@ -19,8 +18,7 @@ use Rattle.run_model.specs.Daemon.{Daemon}
 use Rattle.run_model.specs.Shares.{drains_in_part}
 use Rattle.run_model.specs.declared.advances.Advanced.{Advanced}
 use Rattle.run_laws.specs.Laws.{Extends}
-use Rattle.run_laws.proofs.Basics.{eqb_apart}
-use Rattle.run_laws.proofs.Growing.{extends_on, part_later}
+use Rattle.run_laws.proofs.Growing.{extends_on, none_in_part}
 use Rattle.dcpid_core.specs.Advancing.{Advances, advance_of, commits}
 use Rattle.dcpid_core.specs.Collection.{Collection, rang_if}
 use Rattle.dcpid_core.specs.Parts.{part_in}
@@ -46,14 +44,6 @@ goes_before begin until later kept on goes = record {
   later = all_append (λ x. until.applied ≤ x.at) on.more goes.more on.later
       (all_map (λ x. later.applied ≤ x.at) (λ x. until.applied ≤ x.at) (λ x h. omega (arith, on.applied)) goes.more goes.later);
 }
-
--- drains at later positions are of no part before
-none_in_part : (records : List Record) (part at : ℕ) (more : List Drained) → part < part_of records at → AllOf (λ d. at ≤ d.at) more → drains_in_part records part more ≡ []
-none_in_part records part at [] before later = refl
-none_in_part records part at (d ∷ more) before later =
-    cond-false (eqb (part_of records d.at) part) (d ∷ drains_in_part records part more) (drains_in_part records part more)
-    (eqb_apart (part_of records d.at) part (λ e. omega (arith, part_later records at d.at later.0)))
-    ∙ none_in_part records part at more before later.1
 
 -- the drains of a part that has ended stand
 ended_stands : (records : List Record) (begin : Head) (until : Daemon) (kept : Recorded) (part : ℕ) → part < part_of records until.applied → GoesOnFrom begin until kept

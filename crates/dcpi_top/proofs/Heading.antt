@@ -1,15 +1,13 @@
 -- Files have one head, which is good or bad.
-use Rattle.std.proofs.Common.{◌≡◌, inl, inr, ℕ, true, List, refl, sym, subst, ap, arith, ◌∙◌}
+use Rattle.std.proofs.Common.{◌≡◌, inl, inr, ℕ, List, sym, subst, ap, arith, ◌∙◌}
 use Rattle.std.specs.declared.option.Option.{Option}
 use Rattle.std.specs.declared.option.Option.TheVariants.{Some, None}
-use Rattle.std.specs.List.{IsDistinct}
 use Rattle.std.specs.Prelude.{IsSome}
 use Rattle.std.proofs.lemmas.Bool.{cases_order}
 use Rattle.store_io.specs.Files.{Files}
 use Rattle.store_io.specs.declared.file_refs.FileRef.{FileRef}
 use Rattle.store_io.specs.declared.file_refs.FileRef.TheVariants as named
-use Rattle.image_catalog.specs.Images.{AreImages}
-use Rattle.database_state.specs.Heads.{Head, empty_head, is_in_range, head_text}
+use Rattle.database_state.specs.Heads.{Head, head_text}
 use Rattle.database_state.specs.Standing.{HaveHead, IsLatest, head_file, seal_file}
 use Rattle.dcpi_top.specs.Heads.{IsBadHead}
 
@@ -39,18 +37,3 @@ good_head f h file has (g, is, some, latest, none) =
 pub one_bad_head : (f : Files) (a b : FileRef) → IsBadHead f a → IsBadHead f b → a ≡ b
 one_bad_head f a b (g, is, some, latest, none) (k, are, more, last, other) =
     is ∙ (ap named.Head (latest_one f g k latest last) ∙ sym are)
-
--- the empty head has no images and no rows
-empty_is : (AreImages empty_head.names) × (is_in_range empty_head ≡ true)
-unfolding IsDistinct
-empty_is = (record { apart = tt; few = omega arith }, refl)
-
--- what holds of the images and the numbers of a head that files have
-pub head_holds : (f : Files) (h : Head) → HaveHead f h → (AreImages h.names) × (is_in_range h ≡ true)
-head_holds f h has = elim (cases_order 0 h.generation) [
-  | inl none ↦ subst (λ x. (AreImages x.names) × (is_in_range x ≡ true)) (sym (has.fresh (sym none))) empty_is
-  | inr apart ↦ elim apart [
-    | inl some ↦ ((has.sealed some).1.images, (has.sealed some).1.range)
-    | inr below ↦ absurd (omega (arith, below))
-  ]
-]

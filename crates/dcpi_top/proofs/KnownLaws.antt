@@ -8,6 +8,7 @@ use Rattle.database_state.specs.Standing.{HaveHead}
 use Rattle.growth_model.specs.Laws.{FirstHeadsAreOne, FirstPartsAreOne, OneHeadIsOne}
 use Rattle.profile_merge.specs.Laws.{GrowthHasNoFault}
 use Rattle.made_runs.specs.Stopping.{FittingRunsDoNotStop}
+use Rattle.made_runs.proofs.Stopping.{Growing}
 
 pub record Known : Type 0 where
   pub not_both : (bytes : List ℕ) → IsTrace bytes → IsRefused bytes → ⊥
@@ -21,3 +22,7 @@ pub record Known : Type 0 where
   pub first_heads : FirstHeadsAreOne
   pub no_fault : GrowthHasNoFault
   pub no_stop : FittingRunsDoNotStop
+
+-- those of growth
+pub growing : Known → Growing
+growing laws = record { grown = laws.grown; next_head = laws.next_head; first_heads = laws.first_heads; no_fault = laws.no_fault }

@@ -18,10 +18,10 @@ use Rattle.head_file.proofs.Limits.{ranges_of}
 use Rattle.growth_model.specs.Grown.{GrowsTo, GrownWhole, part_count}
 use Rattle.dcpid_core.specs.Storing.{HasCause, HasNoRows, Part, StopsPart, added_by, is_found_before}
 use Rattle.replay_drive.specs.Growing.{HeadGrownBy, StopsAt, part_at}
-use Rattle.dcpi_top.proofs.Heading.{head_holds}
-use Rattle.dcpi_top.proofs.KnownLaws.{Known}
+use Rattle.made_runs.proofs.Stopping.{head_holds, no_part, no_rows}
+use Rattle.dcpi_top.proofs.KnownLaws.{Known, growing}
+use Rattle.dcpi_top.proofs.PartsBefore.{prefix}
 use Rattle.dcpi_top.proofs.RowCounts.{AreInOrder, head_before}
-use Rattle.dcpi_top.proofs.Stopping.{no_part, no_rows, prefix}
 use Rattle.dcpi_top.proofs.Transfers.{stops_same}
 
 -- the rows of a head that files have stand in their order
@@ -99,13 +99,13 @@ module _ (laws : Known) (recording : Recording) (kept : Recorded) (begin : Head)
       → CameTo recording kept more begin f c → StopsPart (part_at recording kept parts at.head) g other → ⊥
   no_fault_before parts more g c fault other at below came stops =
       let (middle, first, less) = prefix recording.images (records_in recording) kept (suc parts) more (database_of begin f) (database_of came.head c) (omega (arith, below)) came.steps in
-      no_part laws recording kept parts begin f g fault at other first.0 middle distinct first.1 first.2 (omega (arith, less, (few c came.head came.has_head).0)) stops
+      no_part (growing laws) recording kept parts begin f g fault at other first.0 middle distinct first.1 first.2 (omega (arith, less, (few c came.head came.has_head).0)) stops
 
   rows_before : (parts more : ℕ) (g c : Files) (fault : DbFault) (at : StopsAt recording kept parts begin f g fault) (held added : ℕ) → parts < more
       → CameTo recording kept more begin f c → HasNoRows (part_at recording kept parts at.head) held added → ⊥
   rows_before parts more g c fault at held added below came lacks =
       let (after, steps, less) = head_before recording.images (records_in recording) kept (suc parts) more begin came.head (head_in_order f begin begins) (omega (arith, below)) came.heads in
-      no_rows laws recording kept parts begin f g fault at held added steps.0 after steps.1 steps.2 (omega (arith, less, (few c came.head came.has_head).1)) lacks
+      no_rows (growing laws) recording kept parts begin f g fault at held added steps.0 after steps.1 steps.2 (omega (arith, less, (few c came.head came.has_head).1)) lacks
 
   none_before : (parts more : ℕ) (g c : Files) (fault : DbFault) → is_found_before fault ≡ true → StopsAt recording kept parts begin f g fault → parts < more
       → CameTo recording kept more begin f c → ⊥

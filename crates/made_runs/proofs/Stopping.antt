@@ -37,7 +37,7 @@ unfolding IsDistinct
 empty_is = (record { apart = tt; few = omega arith }, refl)
 
 -- what holds of the images and the numbers of a head that files have
-head_holds : (f : Files) (h : Head) → HaveHead f h → (AreImages h.names) × (is_in_range h ≡ true)
+pub head_holds : (f : Files) (h : Head) → HaveHead f h → (AreImages h.names) × (is_in_range h ≡ true)
 head_holds f h has = elim (cases_order 0 h.generation) [
   | inl none ↦ subst (λ x. (AreImages x.names) × (is_in_range x ≡ true)) (sym (has.fresh (sym none))) empty_is
   | inr apart ↦ elim apart [
@@ -47,7 +47,7 @@ head_holds f h has = elim (cases_order 0 h.generation) [
 ]
 
 -- A part that grew did not stop.
-no_part : Growing → (recording : Recording) (kept : Recorded) (parts : ℕ) (begin : Head) (f g : Files) (fault : DbFault)
+pub no_part : Growing → (recording : Recording) (kept : Recorded) (parts : ℕ) (begin : Head) (f g : Files) (fault : DbFault)
     (at : StopsAt recording kept parts begin f g fault) (other : DbFault) (before new : Database)
     → IsDistinct bytes_eq recording.images
     → GrowsTo recording.images (records_in recording) kept parts (database_of begin f) before
@@ -66,7 +66,7 @@ no_part laws recording kept parts begin f g fault at other before new distinct s
     at.head g new other distinct holds.0 holds.1 grows few stops
 
 -- A part whose head keeps the limit on rows has room for them.
-no_rows : Growing → (recording : Recording) (kept : Recorded) (parts : ℕ) (begin : Head) (f g : Files) (fault : DbFault)
+pub no_rows : Growing → (recording : Recording) (kept : Recorded) (parts : ℕ) (begin : Head) (f g : Files) (fault : DbFault)
     (at : StopsAt recording kept parts begin f g fault) (held added : ℕ) (before after : Head)
     → HeadGrowsTo recording.images (records_in recording) kept parts begin before
     → HeadGrows recording.images (additions_of recording.images (records_in recording) (segment_of (records_in recording) kept parts).drains)

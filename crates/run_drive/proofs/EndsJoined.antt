@@ -10,13 +10,12 @@ use Rattle.sample_key.specs.declared.losses.Pace.{Pace}
 use Rattle.sample_key.specs.declared.losses.Pace.TheVariants.{Exact}
 use Rattle.trace_model.specs.Recording.{Recording}
 use Rattle.trace_model.specs.Streams.{stream_of, records_in}
-use Rattle.driver_model.specs.Lists.{AllOf, EachFrom}
+use Rattle.driver_model.specs.Lists.{AllOf}
 use Rattle.driver_model.specs.Driver.{Setup}
 use Rattle.driver_model.specs.Invariant.{DriverInvariant}
 use Rattle.driver_model.specs.declared.plans.Stats.{Stats}
-use Rattle.driver_laws.proofs.Lists.{all_last}
 use Rattle.driver_laws.proofs.Marks.{due_most}
-use Rattle.database_model.specs.Ranges.{AreLosses, LossesRiseFrom}
+use Rattle.database_model.specs.Ranges.{AreLosses}
 use Rattle.database_model.specs.Runs.{Recorded}
 use Rattle.run_model.specs.Daemon.{Daemon, flush_before, is_flushed}
 use Rattle.run_model.specs.Running.{setup_of}
@@ -24,6 +23,7 @@ use Rattle.run_model.specs.Shares.{AgreesWith, Share, drains_of, share_in, share
 use Rattle.run_model.specs.Validity.{IsValidRun, StatisticsAgree}
 use Rattle.run_laws.specs.Laws.{IsFit}
 use Rattle.run_laws.proofs.Endings.{got_within}
+use Rattle.run_laws.proofs.Storing.{losses_rise}
 use Rattle.run_laws.proofs.Systems.{map_got}
 use Rattle.run_joins.specs.Collecting.{CollectsAll}
 use Rattle.run_joins.specs.Joins.{CutRunsAreValid, IsJoined, JoinedRunsAreValid, JoinsAreValid, WasJoined}
@@ -69,18 +69,6 @@ record_with run first_epoch until losses = record {
 
 -- ---- losses
 
--- losses in order rise
-losses_climb : (count least : ℕ) (P : Loss → Type 0) (done losses : List Loss) → count ≤ 2000000
-    → ((loss : Loss) → AllOf (λ m. m.index < loss.index) done → least ≤ loss.index)
-    → EachFrom (λ before l. (l.index < count) × AllOf (λ m. m.index < l.index) before × P l) done losses → LossesRiseFrom least losses
-losses_climb count least P done [] few from h = tt
-losses_climb count least P done (l ∷ ls) few from h = (
-  from l h.0.1,
-  omega (arith, h.0.0),
-  losses_climb count (l.index + 1) P (done ++ l ∷ []) ls few
-      (λ m before. let b : l.index < m.index = all_last (λ o. o.index < m.index) done l before in omega arith) h.1,
-)
-
 -- each lane's can be stored
 lane_losses : (pace : Pace) (trace : Recording) (cpu : ℕ) (work : Working) (side : Shown) → IsFit trace → WasEnded pace trace cpu work → WereClosed work side → AreLosses work.lane.driver.losses
 lane_losses pace trace cpu work side fit ended closed =
@@ -89,7 +77,7 @@ lane_losses pace trace cpu work side fit ended closed =
     let samples = stream_of cpu trace in
     let most : work.lane.driver.at ≤ length samples = omega (arith, lane.in_range.at, due_most samples (work.side.seen.heard / 2)) in
     let limit : length samples ≤ 2000000 = (fit.streams cpu).few in
-    losses_climb work.lane.driver.at 0 (λ l. IsSomeAnd (slice_get samples l.index) (λ s. l.event ≡ s.key.event)) [] work.lane.driver.losses (omega arith)
+    losses_rise work.lane.driver.at 0 (λ l. IsSomeAnd (slice_get samples l.index) (λ s. l.event ≡ s.key.event)) [] work.lane.driver.losses (omega arith)
     (λ l h. omega arith) lane.losses_in_order
 
 all_losses : (pace : Pace) (trace : Recording) (cpu : ℕ) (works : List Working) (sides : List Shown) → IsFit trace → AllEnded pace trace cpu works → Pairwise WereClosed works sides

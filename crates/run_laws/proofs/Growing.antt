@@ -100,7 +100,7 @@ part_later records at later on =
     take_take (suc n) (suc m) (x ∷ xs) h = let r : n ≤ m = omega arith in ap {B = List Record} (λ (z : List Record). x ∷ z) (take_take n m xs r)
 
 -- drains at later positions are of no part before
-none_in_part : (records : List Record) (part at : ℕ) (more : List Drained) → part < part_of records at → AllOf (λ d. at ≤ d.at) more
+pub none_in_part : (records : List Record) (part at : ℕ) (more : List Drained) → part < part_of records at → AllOf (λ d. at ≤ d.at) more
     → drains_in_part records part more ≡ []
 none_in_part records part at [] before later = refl
 none_in_part records part at (d ∷ more) before later =

@@ -27,7 +27,7 @@ use Rattle.run_laws.proofs.Systems.{SystemHolds, of_cell, got_map}
 use Rattle.run_laws.proofs.Endings.{drained_facts, facts_front, got_within}
 
 -- the standard library's word for the same
-all_std : {A : Type 0} (P : A → Type 0) (xs : List A) → AllOf P xs → All P xs
+pub all_std : {A : Type 0} (P : A → Type 0) (xs : List A) → AllOf P xs → All P xs
 all_std {A = A} P xs h = All-from_recursion P xs (by_recursion xs h)
   where
     by_recursion : (ys : List A) → AllOf P ys → AllByRecursion P ys
@@ -45,7 +45,7 @@ all_filter {A = A} P test (x ∷ xs) h =
     cond_both (test x) (x ∷ filter test xs) (filter test xs) (λ (z : List A). AllOf P z) (λ e. (h.0, all_filter P test xs h.1)) (λ e. all_filter P test xs h.1)
 
 -- what the drains of each cell of each processor have, all have
-all_by_cell : (P : Drained → Type 0) (trace : Recording) (drains : List Drained) → AllOf (IsOfTrace trace) drains
+pub all_by_cell : (P : Drained → Type 0) (trace : Recording) (drains : List Drained) → AllOf (IsOfTrace trace) drains
     → ((cpu cell : ℕ) → cpu < trace.cpus → cell ≤ 2 → AllOf P (drains_of cpu cell drains)) → AllOf P drains
 all_by_cell P trace [] own h = tt
 all_by_cell P trace (d ∷ ds) own h =
@@ -97,18 +97,24 @@ drains_fit pace trace first_epoch system fit holds =
     (cell_fits found.0.side.third.handed found.0.far.third.taken (drains_of cpu 2 daemon.drains) lane.cell2.passed.front lane.cell2.same
     (omega (arith, lane.lane.counted.placed, lane.lane.counted.all))))
 
-drains_stored : (pace : Pace) (trace : Recording) (first_epoch : ℕ) (system : System) → IsFit trace → SystemHolds pace trace first_epoch system
-    → AllOf IsDrained system.daemon.drains
-drains_stored pace trace first_epoch system fit holds =
+-- drains that are placed and small can be stored
+pub drains_stored : (trace : Recording) (first_epoch : ℕ) (drains : List Drained) → IsFit trace → AllOf (IsPlaced (records_in trace) first_epoch) drains
+    → AllOf (λ d. length d.batch.entries ≤ 2000000) drains → AllOf IsDrained drains
+drains_stored trace first_epoch drains fit placed small =
     all_both (IsPlaced (records_in trace) first_epoch) (λ d. length d.batch.entries ≤ 2000000) IsDrained
     (λ d placed size. record {
       position = omega (arith, placed.at, fit.records);
       size = size;
       flags = ap length placed.known ∙ length-map d.batch.entries (is_known (records_in trace) d.at);
-    }) system.daemon.drains holds.books.drains.placed (drains_fit pace trace first_epoch system fit holds)
+    }) drains placed small
+
+system_stored : (pace : Pace) (trace : Recording) (first_epoch : ℕ) (system : System) → IsFit trace → SystemHolds pace trace first_epoch system
+    → AllOf IsDrained system.daemon.drains
+system_stored pace trace first_epoch system fit holds =
+    drains_stored trace first_epoch system.daemon.drains fit holds.books.drains.placed (drains_fit pace trace first_epoch system fit holds)
 
 -- losses in order rise
-losses_rise : (count least : ℕ) (P : Loss → Type 0) (done losses : List Loss) → count ≤ 2000000
+pub losses_rise : (count least : ℕ) (P : Loss → Type 0) (done losses : List Loss) → count ≤ 2000000
     → ((loss : Loss) → AllOf (λ m. m.index < loss.index) done → least ≤ loss.index)
     → EachFrom (λ before l. (l.index < count) × AllOf (λ m. m.index < l.index) before × P l) done losses → LossesRiseFrom least losses
 losses_rise count least P done [] few from h = tt
@@ -147,7 +153,7 @@ storable pace trace run first_epoch system fit holds some part within =
       run = some;
       part = omega (arith, fit.parts);
       drains = all_std IsDrained (drains_in_part records part system.daemon.drains)
-          (all_filter IsDrained (λ d. eqb (part_of records d.at) part) system.daemon.drains (drains_stored pace trace first_epoch system fit holds));
+          (all_filter IsDrained (λ d. eqb (part_of records d.at) part) system.daemon.drains (system_stored pace trace first_epoch system fit holds));
       losses = ends_with (eqb part (last_part records)) losses (omega (arith, fit.some)) (omega (arith, fit.cpus))
           (all_std AreLosses losses (losses_stored pace trace first_epoch system fit holds));
     }
@@ -158,7 +164,7 @@ recorded pace trace run first_epoch system fit holds =
     let losses = map (λ (p : Processor). p.driver.losses) system.processors in
     let count : length losses ≡ trace.cpus = length-map system.processors (λ (p : Processor). p.driver.losses) ∙ holds.count in
     record {
-      drains = all_std IsDrained system.daemon.drains (drains_stored pace trace first_epoch system fit holds);
+      drains = all_std IsDrained system.daemon.drains (system_stored pace trace first_epoch system fit holds);
       processors = omega (arith, fit.cpus);
       losses = all_std AreLosses losses (losses_stored pace trace first_epoch system fit holds);
     }

@@ -6,6 +6,9 @@ use std::io;
 use std::io::{Read, Seek, SeekFrom, Write};
 use std::rt::Files;
 
+/// The name of the file that a write fills.
+const ASIDE: &str = "new file";
+
 /// The call that fails.
 #[derive(Clone, Copy, PartialEq, Eq)]
 pub enum FileCall {
@@ -19,7 +22,9 @@ pub enum FileCall {
     SyncAside,
     /// The renaming.
     Rename,
-    /// The removal.
+    /// The removal of the file that a write fills, which comes first.
+    RemoveAside,
+    /// The removal of a file of the folder.
     Remove,
 }
 
@@ -104,7 +109,7 @@ impl<'a> Files for FailingFiles<'a> {
     type Dir = <HostRuntime as Files>::Dir;
 
     fn open_file(&self, how: &OpenOptions, path: &str) -> io::Result<FailingFile> {
-        let (open, sync) = if path.ends_with("new file") {
+        let (open, sync) = if path.ends_with(ASIDE) {
             (FileCall::OpenAside, FileCall::SyncAside)
         } else {
             (FileCall::OpenFolder, FileCall::SyncFolder)
@@ -141,7 +146,11 @@ impl<'a> Files for FailingFiles<'a> {
     }
 
     fn remove_file(&self, path: &str) -> io::Result<()> {
-        self.refuse(FileCall::Remove)?;
+        self.refuse(if path.ends_with(ASIDE) {
+            FileCall::RemoveAside
+        } else {
+            FileCall::Remove
+        })?;
         self.rt.remove_file(path)
     }
 

@@ -37,7 +37,8 @@ const REMOVE: Call<'static> = Call::Remove("p");
 
 // A change of a name that holds `old`, the call of the system that fails in it for want of memory and otherwise, what is
 // answered to each, and what stands there afterwards. Behind a change want of memory is a fault as any other.
-const FAILURES: [(Call<'static>, FileCall, &[u8], &[u8]); 8] = [
+const FAILURES: [(Call<'static>, FileCall, &[u8], &[u8]); 9] = [
+    (WRITE, FileCall::RemoveAside, b"memory|old|", b"failed|old|"),
     (WRITE, FileCall::OpenAside, b"memory|old|", b"failed|old|"),
     (WRITE, FileCall::SyncAside, b"memory|old|", b"failed|old|"),
     (WRITE, FileCall::Rename, b"memory|old|", b"failed|old|"),
@@ -88,5 +89,19 @@ fn want_of_memory_is_answered_only_before_a_change(rt: HostRuntime) -> Result<()
         assert_eq!(rt; found.as_slice(), other);
     }
     fs::remove_dir_all(&rt, path)?;
+    Ok(())
+}
+
+#[test]
+fn a_folder_in_the_place_of_a_file_fails(rt: HostRuntime) -> Result<(), Fail> {
+    let alloc = rt.alloc();
+    let path = path_of(&rt, alloc, "places")?;
+    fs::create_dir(&rt, path.as_str())?;
+    let inner = format!(in alloc; "{path}/p")?;
+    fs::create_dir(&rt, inner.as_str())?;
+    let mut store = DirStore::at(&rt, path.clone()?);
+    let found = told(alloc, &mut store, &[Call::Read("p"), Call::Read("q"), WRITE])?;
+    assert_eq!(rt; found.as_slice(), b"failed|absent|failed|".as_slice());
+    fs::remove_dir_all(&rt, path.as_str())?;
     Ok(())
 }
