@@ -6,12 +6,12 @@ pub mod Listed
 pub mod Makings
 pub mod OneStop
 pub mod Owed
+pub mod PartsBefore
 pub mod Passing
 pub mod Promises
 pub mod Replayed
 pub mod RowCounts
 pub mod Sound
-pub mod Stopping
 pub mod Telling
 pub mod Tidied
 pub mod Transfers
