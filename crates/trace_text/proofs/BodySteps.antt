@@ -1,7 +1,7 @@
 -- One line of the body: judged, and taken.
 use Rattle.std.proofs.Common.{◌≡◌, ℕ, ◌%◌, ◌<◌, Bool, true, false, List, [], ◌∷◌, map, refl, ap, sym, subst, ◌∙◌, arith, Option, Some, None, Ok, Err, if◌then◌else◌}
 use Rattle.std.specs.List.{list_any, count_by}
-use Rattle.std.proofs.lemmas.Bool.{eqb-true, leb-false, or_parts}
+use Rattle.std.proofs.lemmas.Bool.{eq-eqb, eqb-true, leb-false, or_parts}
 use Rattle.trace_model.specs.declared.reasons.TraceWhy.{TraceWhy}
 use Rattle.trace_model.specs.declared.reasons.TraceWhy.TheVariants.{BadWord, BadNumber, OutOfRange, Unaligned, BadName}
 use Rattle.trace_model.specs.declared.notices.Record.TheVariants.{Scan, Load, Unload, Exec, Exit, Kernel, Drain, Merge, Epoch}
@@ -16,6 +16,8 @@ use Rattle.trace_text.specs.declared.body_lines.NoticeLine.TheVariants as notice
 use Rattle.trace_text.specs.declared.body_lines.SampleLine.{SampleLine}
 use Rattle.trace_text.specs.declared.body.Body.{Body}
 use Rattle.trace_text.specs.Forms.{BodyValues, NoticeValues, notice_values, sample_values, values_shown, read_field}
+use Rattle.trace_text.specs.Faults.{sample_fault}
+use Rattle.trace_text.specs.Sampling.{IsGoodSample, ReadsSample}
 use Rattle.trace_text.specs.State.{FaultOf, IsSound, Passes, said_in_body}
 use Rattle.trace_text.specs.declared.body.Taken.{Taken}
 use Rattle.trace_text.specs.declared.body.Taken.TheVariants as kinds
@@ -143,3 +145,10 @@ pub takes : (taken : Taken) (old new : Body) (line : List ℕ) (raw : Said (List
     → Adds taken old said new → TakesLine taken old line new
 takes kinds.Line old new line raw said e judged a = (a.0, a.1, (said, by_form old line raw e ∙ judged, a.2))
 takes kinds.End old new line raw said e judged a = (a.0, (Ended, by_form old line raw e ∙ judged ∙ ap (λ s. Ok s) a.1, refl))
+
+-- a line that was read as a sample in one pass
+pub sample_judged : (b : Body) (line : List ℕ) (s : SampleLine ℕ ℕ) → IsSound b → ReadsSample line s → s.pc % 4 ≡ 0 → None ≡ sample_fault b.sizes.cpus b.samples s.cpu → IsGoodSample b line s
+sample_judged b line s sound r aligned fault =
+    let context : None ≡ first_that_applies (context_tests (said_in_body b) (sample_values s)) = fault ∙ ap (λ n. sample_fault b.sizes.cpus n s.cpu) sound.tracks.samples_are in
+    let even : true ≡ every is_aligned (tested (sample_values s)) = sym (eq-eqb (s.pc % 4) 0 aligned) in
+    (by_form b line r.0 r.1 ∙ good (said_in_body b) r.0 (sample_values s) r.2 even refl context, passing (said_in_body b) r.0 (sample_values s) r.2 even refl context)

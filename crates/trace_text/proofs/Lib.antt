@@ -4,6 +4,7 @@ pub mod Cutting
 pub mod FieldValues
 pub mod Index
 pub mod Judged
+pub mod OnePass
 pub mod Phasing
 pub mod ScheduleSteps
 pub mod Tracking

@@ -5,6 +5,7 @@ pub mod Judging
 pub mod Phases
 pub mod Progress
 pub mod Refusing
+pub mod Sampling
 pub mod State
 pub mod Stepping
 pub mod Taking

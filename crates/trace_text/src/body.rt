@@ -1,7 +1,7 @@
 //! The body of a trace, as far as it was read: `Body::take_line` finds a line's form, judges it after what the lines
 //! before it said, and keeps what it says. The body counts what the limits speak of and holds each image once.
 
-ghost use Rattle.std.specs.Prelude.{◌≡◌, ◌%◌, ◌<◌, ◌≤◌, nat_le, [], ◌∷◌, true, not, OnOk, IfErr, IfOk, Some, None, if◌then◌else◌, ◌||◌};
+ghost use Rattle.std.specs.Prelude.{◌≡◌, ◌%◌, ◌<◌, ◌≤◌, nat_le, [], ◌∷◌, true, not, OnOk, IfErr, IfOk, IfSome, Some, None, if◌then◌else◌, ◌||◌};
 ghost use Rattle.std.specs.Ordering.{nat_cmp};
 ghost use Rattle.std.specs.Cmp.Lexicographic.{slice_cmp};
 ghost use Rattle.std.specs.BTreeMap.{get};
@@ -18,6 +18,7 @@ use crate::body_lines::{
 use crate::fields::why_not_read;
 use crate::headers::Sizes;
 use crate::refusals::LineRefusal;
+use crate::samples::read_plain_sample;
 use sample_key::{Key, MOST_SAMPLES};
 use std::alloc::{AllocError, Global};
 use std::cmp::Ordering;
@@ -64,6 +65,7 @@ impl Body {
     ghost use Rattle.trace_text.specs.Forms.{body_shown, notice_values, sample_values, values_shown};
     ghost use Rattle.trace_text.specs.Judging.{size_shown};
     ghost use Rattle.trace_text.specs.Progress.{IsRefusal};
+    ghost use Rattle.trace_text.specs.Sampling.{IsGoodSample};
     ghost use Rattle.trace_text.specs.State.{AreSteps, HasItsImages, IsSound, said_in_body, said_with_steps};
     ghost use Rattle.trace_text.specs.Taking.{Adds, IsIndexed, IsJudged, Names, NamesImage, PushesRecord};
     ghost use Rattle.trace_text.specs.Taking.{PushesSample, TakesLine};
@@ -90,6 +92,36 @@ impl Body {
 
     /// Takes the next line of the body.
     pub fn take_line(&mut self, alloc: Global, line: &[u8]) -> Result<Taken, LineRefusal>
+        requires { IsSound self.old }
+        ensures taken { IfOk result (λ taken. TakesLine taken self.old line.now self.new) }
+        ensures refused { IfErr result (IsRefusal (verdict (said_in_body self.old) line.now)) }
+    {
+        match self.plain_sample(line) {
+            Some(sample) => {
+                self.push_sample(&sample)?;
+                Ok(Taken::Line)
+            }
+            None => self.take_by_fields(alloc, line),
+        }
+    }
+
+    // The sample of a good line, where it was read in one pass.
+    fn plain_sample(&self, line: &[u8]) -> Option<SampleValues>
+        requires { IsSound self.now }
+        ensures { IfSome result (λ sample. IsGoodSample self.now line.now sample) }
+    {
+        let sample = read_plain_sample(line)?;
+        if sample.pc % 4 != 0 {
+            return None;
+        }
+        match self.against_sample(sample.cpu) {
+            Some(_) => None,
+            None => Some(sample),
+        }
+    }
+
+    // The same as `take_line`, with each field cut off first and read then, so that a refusal has its first reason.
+    fn take_by_fields(&mut self, alloc: Global, line: &[u8]) -> Result<Taken, LineRefusal>
         requires { IsSound self.old }
         ensures taken { IfOk result (λ taken. TakesLine taken self.old line.now self.new) }
         ensures refused { IfErr result (IsRefusal (verdict (said_in_body self.old) line.now)) }

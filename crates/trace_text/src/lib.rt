@@ -9,6 +9,7 @@ mod headers;
 mod input;
 mod reading;
 mod refusals;
+mod samples;
 mod schedule;
 mod writing;
 

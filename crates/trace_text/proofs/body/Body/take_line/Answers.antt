@@ -1,15 +1,10 @@
-use Rattle.std.proofs.Common.{◌∙◌}
-use Rattle.std.proofs.lemmas.Result.{err_from_is_err_and}
-use Rattle.trace_text.specs.Forms.{body_shown, values_shown}
-use Rattle.trace_text.proofs.BodySteps.{by_form, by_no_form, takes}
+use Rattle.trace_text.specs.Forms.{sample_values}
+use Rattle.trace_text.proofs.Adding.{sample_added}
 use Rattle.trace_text.proofs.body.Body.take_line.Goals as goal
 
-pub returns-in_default-clause-refused : goal.returns-in_default-clause-refused
-returns-in_default-clause-refused c = by_no_form c.args.self.now c.args.line.now c.in_default.ensures
-
-pub returns-in_err-values-clause-refused : goal.returns-in_err-values-clause-refused
-returns-in_err-values-clause-refused c = let p = err_from_is_err_and c.from_residual.result c.from_residual.ensures.1 in
-    rw (p.1, p.2) (by_form c.args.self.now c.args.line.now (body_shown c.in-Some.form) c.in-Some.ensures ∙ c.in_err-values.ensures.judged)
-
-pub returns-clause-taken : goal.returns-clause-taken
-returns-clause-taken c = takes c.in_ok-taken.taken c.args.self.now c.add.new.self c.args.line.now (body_shown c.in-Some.form) (values_shown c.in_ok-values.values) c.in-Some.ensures c.in_ok-values.ensures.judged c.in_ok-taken.ensures
+pub returns-in_ok-push_sample-in-Some-clause-taken : goal.returns-in_ok-push_sample-in-Some-clause-taken
+returns-in_ok-push_sample-in-Some-clause-taken c =
+    let s = c.in-Some.sample in
+    let good = c.in-Some.ensures in
+    let added = sample_added c.args.self.now c.push_sample.new.self s.cpu s.pid s.pc s.event c.requires c.in_ok-push_sample-in-Some.ensures good.1 in
+    (added.0, added.1, (sample_values s, good.0, added.2))
