@@ -100,7 +100,11 @@ fn a_folder_in_the_place_of_a_file_fails(rt: HostRuntime) -> Result<(), Fail> {
     let inner = format!(in alloc; "{path}/p")?;
     fs::create_dir(&rt, inner.as_str())?;
     let mut store = DirStore::at(&rt, path.clone()?);
-    let found = told(alloc, &mut store, &[Call::Read("p"), Call::Read("q"), WRITE])?;
+    let found = told(
+        alloc,
+        &mut store,
+        &[Call::Read("p"), Call::Read("q"), WRITE],
+    )?;
     assert_eq!(rt; found.as_slice(), b"failed|absent|failed|".as_slice());
     fs::remove_dir_all(&rt, path.as_str())?;
     Ok(())
