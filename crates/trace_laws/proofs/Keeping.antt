@@ -14,7 +14,7 @@ use Rattle.trace_model.specs.declared.notices.Step.TheVariants.{Lane, Poll, Adva
 use Rattle.trace_model.specs.declared.recordings.Trace.{Trace}
 use Rattle.trace_model.specs.Said.{Said, LongHeader, Ended, every, tested, is_within, is_aligned, is_sample, is_record, is_step, is_part_end, is_table_size}
 use Rattle.trace_model.specs.Parts.{ends_part}
-use Rattle.trace_model.specs.Recording.{are_good, is_named, keeps_ranges, line_said, record_said, said_in, step_said}
+use Rattle.trace_model.specs.Recording.{Recording, are_good, is_named, keeps_ranges, line_said, record_said, said_in, step_said}
 use Rattle.trace_model.specs.Streams.{names_below, records_from, samples_from, steps_below}
 use Rattle.trace_model.specs.Traces.{recording_of}
 use Rattle.trace_laws.specs.Kept.{HasSizes, KeepsLimits, KeepsRanges, NamesProcessors}
@@ -70,17 +70,21 @@ behind : (kind : Said ℕ → Bool) (front rest : List (Said ℕ)) → count_by 
 behind kind [] rest = omega arith
 behind kind (said ∷ front) rest = omega (arith, behind kind front rest, more kind said (front ++ rest))
 
-pub limits : (t : Trace) → KeepsLimits (recording_of t)
-limits t =
-    let lines : List (Said ℕ) = map (line_said t.images.items) t.lines.items in
-    let steps : List (Said ℕ) = map step_said t.schedule.items in
-    let header : Said ℕ = LongHeader t.cpus t.buckets t.buffer in
+-- the limits of what is said line by line
+pub limits_of : (r : Recording) → are_good [] (said_in r) ≡ true → KeepsLimits r
+limits_of r good =
+    let lines : List (Said ℕ) = map (line_said r.images) r.lines in
+    let steps : List (Said ℕ) = map step_said r.schedule in
+    let header : Said ℕ = LongHeader r.cpus r.buckets r.buffer in
     record {
-      samples = omega (arith, as_many_samples t.images.items (Ended ∷ steps) t.lines.items, more is_sample header (lines ++ Ended ∷ steps), all_within is_sample MOST_SAMPLES samples_limited (said_in (recording_of t)) t.good);
-      records = omega (arith, as_many_records t.images.items (Ended ∷ steps) t.lines.items, more is_record header (lines ++ Ended ∷ steps), all_within is_record MOST_RECORDS records_limited (said_in (recording_of t)) t.good);
-      parts = omega (arith, as_many_parts t.images.items (Ended ∷ steps) t.lines.items, more is_part_end header (lines ++ Ended ∷ steps), all_within is_part_end MOST_PARTS parts_limited (said_in (recording_of t)) t.good);
-      steps = omega (arith, as_many_steps t.schedule.items, more is_step Ended steps, behind is_step lines (Ended ∷ steps), more is_step header (lines ++ Ended ∷ steps), all_within is_step MOST_STEPS steps_limited (said_in (recording_of t)) t.good);
+      samples = omega (arith, as_many_samples r.images (Ended ∷ steps) r.lines, more is_sample header (lines ++ Ended ∷ steps), all_within is_sample MOST_SAMPLES samples_limited (said_in r) good);
+      records = omega (arith, as_many_records r.images (Ended ∷ steps) r.lines, more is_record header (lines ++ Ended ∷ steps), all_within is_record MOST_RECORDS records_limited (said_in r) good);
+      parts = omega (arith, as_many_parts r.images (Ended ∷ steps) r.lines, more is_part_end header (lines ++ Ended ∷ steps), all_within is_part_end MOST_PARTS parts_limited (said_in r) good);
+      steps = omega (arith, as_many_steps r.schedule, more is_step Ended steps, behind is_step lines (Ended ∷ steps), more is_step header (lines ++ Ended ∷ steps), all_within is_step MOST_STEPS steps_limited (said_in r) good);
     }
+
+pub limits : (t : Trace) → KeepsLimits (recording_of t)
+limits t = limits_of (recording_of t) t.good
 
 -- the sizes of the header
 

@@ -9,6 +9,7 @@ pub mod Naming
 pub mod Passing
 pub mod Rebuilt
 pub mod Scanned
+pub mod Shortness
 pub mod Spelled
 pub mod Staged
 pub mod Telling

@@ -2,10 +2,12 @@
 //! every trace keeps.
 #![tactic(auto)]
 
+mod bounds;
 mod kept;
 mod laws;
 mod readings;
 
+pub use bounds::{MOST_TRACE_BYTES, MOST_TRACE_LINES, traces_are_short};
 pub use kept::{
     limits_are_kept, places_have_images, processors_are_there, ranges_are_kept, sizes_are_kept,
 };
