@@ -24,7 +24,7 @@ use Rattle.trace_text.specs.State.{IsSound, AreSteps, said_in_body, said_with_st
 use Rattle.trace_text.specs.Taking.{TakesLine}
 use Rattle.trace_text.specs.Progress.{Went, Stops, StopsIn, SaysNext, IsRefusal}
 use Rattle.trace_text.specs.Phases.{StepsBody, StepsSchedule}
-use Rattle.trace_text.specs.Refusing.{HaltsBy, IsOfLineRefusal, IsFirstBadBy}
+use Rattle.trace_text.specs.Refusing.{HaltsBy, HaltsWithinBy, IsOfLineRefusal, IsFirstBadBy}
 use Rattle.trace_model.proofs.Pushing.{images_push, good_push}
 use Rattle.trace_text.proofs.Tracking.{count_push}
 use Rattle.trace_text.proofs.ScheduleSteps.{ended}
@@ -54,6 +54,19 @@ pub halts_on : (a b : Option (List ℕ)) (x y : List (Said ℕ)) (m k j : ℕ) (
 halts_on a b x y m k j (Bad line why) w e h = stops_on a b x y m k j line why w e h
 halts_on a b x y m k j ReadFault w e h = tt
 halts_on a b x y m k j Memory w e h = tt
+
+-- a line that is refused is no later than another
+pub within_at : (last number : ℕ) (why : TraceWhy) (refusal : TraceRefusal) → refusal ≡ Bad number why → number ≤ last → HaltsWithinBy last refusal
+within_at last number why refusal e h = subst (λ (r : TraceRefusal). HaltsWithinBy last r) (sym e) h
+
+pub within_of : (last number : ℕ) (refusal : LineRefusal) (result : TraceRefusal) → IsOfLineRefusal number refusal result → number ≤ last → HaltsWithinBy last result
+within_of last number (lines.Bad why) result e h = within_at last number why result e h
+within_of last number lines.Memory result e h = subst (λ (r : TraceRefusal). HaltsWithinBy last r) (sym e) tt
+
+pub within_more : (last more : ℕ) (refusal : TraceRefusal) → last ≤ more → HaltsWithinBy last refusal → HaltsWithinBy more refusal
+within_more last more (Bad line why) h w = omega (arith, h, w)
+within_more last more ReadFault h w = tt
+within_more last more Memory h w = tt
 
 -- the first bad line of the input
 first_bad_in : (bytes : List ℕ) (number : ℕ) (why : TraceWhy) → StopsIn bytes [] 0 number why → FirstBad bytes number why

@@ -1,5 +1,5 @@
 -- Lines read one after another.
-use Rattle.std.proofs.Common.{◌≡◌, ◌≢◌, ℕ, suc, ◌+◌, true, false, List, [], ◌∷◌, ◌++◌, length, refl, ap, sym, subst, ◌∙◌, arith, Option, Some, None, Result, Ok, Err, append_assoc}
+use Rattle.std.proofs.Common.{◌≡◌, ◌≢◌, ℕ, ◌+◌, true, false, List, [], ◌∷◌, ◌++◌, length, refl, ap, sym, subst, ◌∙◌, arith, Option, Some, None, Result, Ok, Err, append_assoc}
 use Rattle.std.specs.List.{list_any}
 use Rattle.std.specs.Io.KnownBytes.{Consumes, IsAtEnd}
 use Rattle.std.proofs.KnownBytes.{Consumes-trans, Consumes-nil}
@@ -14,6 +14,7 @@ use Rattle.trace_model.specs.declared.reasons.TraceWhy.{TraceWhy}
 use Rattle.trace_model.specs.declared.reasons.TraceWhy.TheVariants.{NoEnd, AfterEnd}
 use Rattle.trace_model.specs.Said.{Said, is_end}
 use Rattle.trace_model.specs.Grammar.{verdict, said_by, where_said, IsLine, Refuses, Finished, Stopped, Unfinished, Overlong, why_no_form, stage_after}
+use Rattle.trace_laws.proofs.Shortness.{said_length}
 use Rattle.trace_text.specs.Progress.{Went, StopsIn, Stops}
 
 some_none : {A : Type 0} (x : A) → None ≡ Some x → ⊥
@@ -102,16 +103,6 @@ pub stops_long : (old new : Option (List ℕ)) (line : List ℕ) (before : List 
 stops_long None new line before k number why e r v = tt
 stops_long (Some bytes) new line before k number why e r v = let f = taken_front bytes line new r.2 in
     refused_now bytes before k number why e (Overlong line f.0 r.0 r.1 f.2 v)
-
-said_length_by : (r : Result (Said ℕ) TraceWhy) (before after : List (Said ℕ)) (xs : List (List ℕ))
-    → ((s : Said ℕ) → said_by (before ++ s ∷ []) xs ≡ Some after → length after ≡ length (before ++ s ∷ []) + length xs)
-    → where_said r (λ s. said_by (before ++ s ∷ []) xs) ≡ Some after → length after ≡ length before + suc (length xs)
-said_length_by (Ok s) before after xs h e = omega (arith, h s e, length-append before (s ∷ []))
-said_length_by (Err why) before after xs h e = absurd (some_none after e)
-
-said_length : (before after : List (Said ℕ)) (xs : List (List ℕ)) → said_by before xs ≡ Some after → length after ≡ length before + length xs
-said_length before after [] e = ap length (sym (some_same before after e)) ∙ omega arith
-said_length before after (x ∷ xs) e = said_length_by (verdict before x) before after xs (λ s f. said_length (before ++ s ∷ []) after xs f) e
 
 -- each line says one thing
 pub went_length : (a b : Option (List ℕ)) (x y : List (Said ℕ)) (n : ℕ) → Went a b x y n → length y ≡ length x + n

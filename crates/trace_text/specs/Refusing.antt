@@ -56,6 +56,13 @@ HaltsBy old before count refusal = IfBad (Stops old before count) refusal
 abbrev pub Halts : {T : Type 0} → Option (List ℕ) → List (Said ℕ) → ℕ → Result T TraceRefusal → Type 0
 Halts old before count result = OnBad (Stops old before count) result
 
+-- a bad line that is answered is no later than this one
+abbrev pub HaltsWithinBy : ℕ → TraceRefusal → Type 0
+HaltsWithinBy last refusal = IfBad (λ line why. line ≤ last) refusal
+
+abbrev pub HaltsWithin : {T : Type 0} → ℕ → Result T TraceRefusal → Type 0
+HaltsWithin last result = OnBad (λ line why. line ≤ last) result
+
 -- a line is the first bad one of the input, for its first reason
 abbrev pub IsFirstBad : Option (List ℕ) → ℕ → TraceWhy → Type 0
 IsFirstBad input line why = IfSome input (λ bytes. FirstBad bytes line why)

@@ -8,7 +8,7 @@ ghost use Rattle.trace_model.specs.Traces.{recording_of};
 ghost use Rattle.trace_text.specs.Judging.{size_shown};
 ghost use Rattle.trace_text.specs.State.{AreSteps, IsSound, Passes, said_in_body, said_with_steps};
 ghost use Rattle.trace_text.specs.Phases.{ReadsBody, ReadsHeader, ReadsSchedule, StepsBody, StepsSchedule, unread};
-ghost use Rattle.trace_text.specs.Refusing.{Halts, IsFirstBadOf, TellsFaults};
+ghost use Rattle.trace_text.specs.Refusing.{Halts, HaltsWithin, IsFirstBadOf, TellsFaults};
 
 use crate::body::{Body, Taken};
 use crate::headers::{Sizes, sizes_of};
@@ -19,18 +19,21 @@ use line_reader::Ending;
 use outside_io::Source;
 use sample_key::MOST_SAMPLES;
 use std::alloc::Global;
+use trace_laws::MOST_TRACE_LINES;
 use trace_model::{MOST_RECORDS, MOST_STEPS, Step, Trace, TraceWhy};
 
 /// The most lines of a body: samples, records, and the end.
 const MOST_BODY_LINES: u64 = MOST_SAMPLES + MOST_RECORDS as u64 + 1;
 
 /// Reads a trace to its end, or to its first bad line. `Bad` comes exactly where the input is no trace; at `Ok` nothing
-/// of the input is left unread, and an input that never ends is refused.
+/// of the input is left unread. An input that never ends is refused, whatever its bytes are: the line that `Bad` names is at
+/// most the one behind the last that a trace may have, and a line is read to 401 bytes at most.
 pub fn read_trace<S: Source>(alloc: Global, source: &mut S) -> Result<Trace, TraceRefusal>
     ensures reads { IfOk result (λ trace.
         IfSome (S.left source.old) (λ bytes. Reads bytes (recording_of trace))) }
     ensures whole { OnOk result (IsAtEnd (S.left source.new)) }
     ensures bad { IsFirstBadOf (S.left source.old) result }
+    ensures within { HaltsWithin (MOST_TRACE_LINES + 1) result }
     ensures faults { TellsFaults (S.faults source.old) (S.faults source.new) result }
 {
     let mut input = Input::new(alloc)?;
@@ -48,6 +51,7 @@ fn read_header<S: Source>(input: &mut Input, source: &mut S) -> Result<Sizes, Tr
     ensures passes { IfOk result (λ sizes. Passes [] (size_shown sizes)) }
     ensures number { OnOk result (input.new.number ≡ 1) }
     ensures stops { Halts (unread input.old (S.left source.old)) [] 0 result }
+    ensures within { HaltsWithin 1 result }
     ensures faults { TellsFaults (S.faults source.old) (S.faults source.new) result }
 {
     let ending = input.next(source)?;
@@ -73,6 +77,7 @@ fn read_body<S: Source>(
         (unread input.new (S.left source.new)) body.old body.new input.new.number) }
     ensures sound { OnOk result (IsSound body.new) }
     ensures stops { Halts (unread input.old (S.left source.old)) (said_in_body body.old) 1 result }
+    ensures within { HaltsWithin (1 + MOST_BODY_LINES) result }
     ensures faults { TellsFaults (S.faults source.old) (S.faults source.new) result }
 {
     for _ in 0..MOST_BODY_LINES {
@@ -98,6 +103,7 @@ fn step_body<S: Source>(
     ensures number { OnOk result (input.new.number ≡ input.old.number + 1) }
     ensures stops { Halts (unread input.old (S.left source.old))
         (said_in_body body.old) input.old.number result }
+    ensures within { HaltsWithin (input.old.number + 1) result }
     ensures faults { TellsFaults (S.faults source.old) (S.faults source.new) result }
 {
     let ending = input.next(source)?;
@@ -125,6 +131,7 @@ fn read_schedule<S: Source>(
     ensures end { OnOk result (IsAtEnd (unread input.new (S.left source.new))) }
     ensures stops { Halts (unread input.old (S.left source.old))
         (said_with_steps body.now []) input.old.number result }
+    ensures within { HaltsWithin (input.old.number + 1 + MOST_STEPS) result }
     ensures faults { TellsFaults (S.faults source.old) (S.faults source.new) result }
 {
     let mut steps = Vec::new(alloc);
@@ -153,6 +160,7 @@ fn step_schedule<S: Source>(
     ensures number { OnOk result (input.new.number ≡ input.old.number + 1) }
     ensures stops { Halts (unread input.old (S.left source.old))
         (said_with_steps body.now steps.old.items) input.old.number result }
+    ensures within { HaltsWithin (input.old.number + 1) result }
     ensures faults { TellsFaults (S.faults source.old) (S.faults source.new) result }
 {
     let ending = input.next(source)?;

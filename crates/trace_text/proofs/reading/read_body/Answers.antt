@@ -3,9 +3,10 @@ use Rattle.std.specs.Io.KnownBytes.{prepend_known}
 use Rattle.trace_text.specs.State.{said_in_body}
 use Rattle.std.proofs.lemmas.Result.{err_from_is_err_and}
 use Rattle.trace_text.proofs.Walking.{went_on, went_length}
-use Rattle.trace_text.proofs.Phasing.{halts_on, body_bound}
+use Rattle.trace_text.proofs.Phasing.{halts_on, body_bound, within_more}
 use Rattle.trace_model.specs.Said.{Ended}
 use Rattle.trace_text.specs.declared.body.Body.{Body}
+use Rattle.trace_text.specs.declared.reading.TheConstants.{MOST_BODY_LINES}
 use Rattle.trace_text.specs.Progress.{Went}
 use Rattle.trace_text.proofs.reading.read_body.Goals as goal
 
@@ -33,3 +34,7 @@ loop-preserved g c = let t = rw c.in-Line.is at c.in_ok-taken.ensures.taken in r
   first = c.loop.invariant.first;
   faults = c.in_ok-taken.ensures.faults ∙ c.loop.invariant.faults;
 }
+
+pub returns-in_err-taken-clause-within : goal.returns-in_err-taken-clause-within
+returns-in_err-taken-clause-within g c = let p = err_from_is_err_and c.from_residual.result c.from_residual.ensures.1 in
+    rw (p.1, p.2) (within_more (c.loop.input.number + 1) (1 + MOST_BODY_LINES) c.in_err-taken.field-0.0 (omega (arith, c.loop.invariant.number, c.loop-test.true)) c.in_err-taken.ensures.within)

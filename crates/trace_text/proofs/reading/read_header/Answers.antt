@@ -2,7 +2,7 @@ use Rattle.std.proofs.Common.{sym, ap, refl, ◌∙◌, [], arith}
 use Rattle.std.specs.Io.KnownBytes.{prepend_known}
 use Rattle.trace_text.specs.Judging.{size_shown}
 use Rattle.trace_text.proofs.Walking.{went_line, stops_finished, stops_stopped, stops_long}
-use Rattle.trace_text.proofs.Phasing.{halted_at}
+use Rattle.trace_text.proofs.Phasing.{halted_at, within_at}
 use Rattle.std.proofs.Common.{◌∷◌}
 use Rattle.trace_model.specs.Grammar.{verdict}
 use Rattle.trace_text.proofs.reading.read_header.Goals as goal
@@ -21,3 +21,12 @@ returns-in-Unfinished-clause-stops g c = halted_at (prepend_known c.args.input.n
 pub returns-in-TooLong-clause-stops : goal.returns-in-TooLong-clause-stops
 returns-in-TooLong-clause-stops g c = halted_at (prepend_known c.args.input.now.reader (g.S.Source.left c.args.source.now)) [] 0 c.next.new.self.number _ c.bad-in-TooLong.result c.bad-in-TooLong.ensures
     (stops_long (prepend_known c.args.input.now.reader (g.S.Source.left c.args.source.now)) (prepend_known c.next.new.self.reader (g.S.Source.left c.next.new.source)) c.next.new.self.line.items [] 0 c.next.new.self.number _ (omega (arith, c.requires, c.in_ok-ending.ensures.number)) (rw c.in-TooLong.is at c.in_ok-ending.ensures.line) refl)
+
+pub returns-in-Err-clause-within : goal.returns-in-Err-clause-within
+returns-in-Err-clause-within g c = within_at (1) c.next.new.self.number _ c.bad.result c.bad.ensures (omega (arith, c.requires, c.in_ok-ending.ensures.number))
+
+pub returns-in-Unfinished-clause-within : goal.returns-in-Unfinished-clause-within
+returns-in-Unfinished-clause-within g c = within_at (1) c.next.new.self.number _ c.bad-in-Unfinished.result c.bad-in-Unfinished.ensures (omega (arith, c.requires, c.in_ok-ending.ensures.number))
+
+pub returns-in-TooLong-clause-within : goal.returns-in-TooLong-clause-within
+returns-in-TooLong-clause-within g c = within_at (1) c.next.new.self.number _ c.bad-in-TooLong.result c.bad-in-TooLong.ensures (omega (arith, c.requires, c.in_ok-ending.ensures.number))

@@ -1,9 +1,10 @@
 use Rattle.std.proofs.Common.{ap, refl, ◌∙◌, ◌+◌, [], arith}
 use Rattle.std.specs.Io.KnownBytes.{prepend_known}
+use Rattle.trace_model.specs.declared.limits.TheConstants.{MOST_STEPS}
 use Rattle.trace_text.specs.State.{said_with_steps}
 use Rattle.std.proofs.lemmas.Result.{err_from_is_err_and}
 use Rattle.trace_text.proofs.Walking.{went_on}
-use Rattle.trace_text.proofs.Phasing.{halts_on}
+use Rattle.trace_text.proofs.Phasing.{halts_on, within_more}
 use Rattle.trace_text.proofs.reading.read_schedule.Goals as goal
 
 pub returns-in_err-more-clause-stops : goal.returns-in_err-more-clause-stops
@@ -18,3 +19,7 @@ loop-preserved g c = let t = rw c.in-true.is at c.in_ok-more.ensures.more in let
   number = omega (arith, c.in_ok-more.ensures.number, c.loop.invariant.number);
   faults = c.in_ok-more.ensures.faults ∙ c.loop.invariant.faults;
 }
+
+pub returns-in_err-more-clause-within : goal.returns-in_err-more-clause-within
+returns-in_err-more-clause-within g c = let p = err_from_is_err_and c.from_residual.result c.from_residual.ensures.1 in
+    rw (p.1, p.2) (within_more (c.loop.input.number + 1) (c.args.input.now.number + 1 + MOST_STEPS) c.in_err-more.field-0.0 (omega (arith, c.loop.invariant.number, c.loop-test.true)) c.in_err-more.ensures.within)
