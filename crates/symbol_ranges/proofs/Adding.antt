@@ -1,5 +1,5 @@
 -- An index with one symbol more.
-use Rattle.std.proofs.Common.{◌≡◌, ℕ, ◌+◌, ◌-◌, ◌<◌, ◌≤◌, Bool, true, false, cond, ◌||◌, List, [], ◌∷◌, ◌++◌, None, Some, Option, length, map, take, drop, get_or, refl, sym, ap, ◌∙◌, subst, arith, length-append, take-append-drop, lit≤}
+use Rattle.std.proofs.Common.{◌≡◌, ℕ, ◌+◌, ◌-◌, ◌<◌, ◌≤◌, Bool, true, false, cond, ◌||◌, List, [], ◌∷◌, ◌++◌, None, Some, Option, length, take, drop, refl, sym, ap, ◌∙◌, subst, arith, length-append, take-append-drop, lit≤}
 use Rattle.std.specs.Prelude.{find}
 use Rattle.std.specs.List.{AllByRecursion, list_any, insert}
 use Rattle.std.specs.Option.{option_or}
@@ -7,9 +7,8 @@ use Rattle.std.proofs.lemmas.List.{map-append, get_or_append_left}
 use Rattle.std.proofs.lemmas.List.Folds.{list_any-append, find-append}
 use Rattle.std.proofs.Math.Seq.{get_or-append_seam}
 use Rattle.symbol_ranges.specs.declared.symbols.Symbol.{Symbol}
-use Rattle.symbol_ranges.specs.declared.symbols.TheConstants.{MOST_LINES}
 use Rattle.symbol_ranges.specs.Lines.{AreApart, meets, covers, overlaps}
-use Rattle.symbol_ranges.specs.Index.{is_before, symbol_at, shown, blank, Rises, AreWithin, IsIndexed}
+use Rattle.symbol_ranges.specs.Index.{is_before, symbol_at, shown, blank, Rises, IsIndexed}
 use Rattle.symbol_ranges.specs.Reads.{Fits}
 use Rattle.symbol_ranges.proofs.Order.{stands_behind, covered_twice, met_by}
 use Rattle.symbol_ranges.proofs.Halving.{all_shown, find_none}

@@ -1,5 +1,5 @@
 -- A line cut at its spaces, from the front.
-use Rattle.std.proofs.Common.{◌≡◌, ℕ, List, ◌∷◌, refl, arith, None}
+use Rattle.std.proofs.Common.{◌≡◌, ℕ, List, ◌∷◌, refl, None}
 use Rattle.text_num.proofs.Cutting.{a_field}
 use Rattle.symbol_ranges.specs.Lines.{cut_at_spaces, four_of}
 

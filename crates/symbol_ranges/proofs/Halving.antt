@@ -1,14 +1,14 @@
 -- What halving finds among symbols in order.
-use Rattle.std.proofs.Common.{◌≡◌, ℕ, zero, suc, ◌+◌, ◌-◌, ◌<◌, ◌≤◌, Bool, true, false, cond, ◌||◌, List, [], ◌∷◌, ◌++◌, None, Some, Option, length, map, take, drop, get_or, refl, sym, ap, ◌∙◌, subst, arith, take-append-drop}
+use Rattle.std.proofs.Common.{◌≡◌, ℕ, zero, suc, ◌+◌, ◌<◌, ◌≤◌, Bool, true, false, cond, ◌||◌, List, [], ◌∷◌, ◌++◌, None, Some, Option, length, take, drop, get_or, refl, sym, ap, ◌∙◌, subst, arith, take-append-drop}
 use Rattle.std.specs.Prelude.{find}
 use Rattle.std.specs.List.{AllByRecursion, list_any}
 use Rattle.std.specs.List.Sorted.{IsPartitionedBy}
 use Rattle.std.specs.Option.{is_some}
-use Rattle.std.proofs.lemmas.List.{map-append, get_or_default}
+use Rattle.std.proofs.lemmas.List.{map-append}
 use Rattle.text_num.proofs.Lists.{rest_at}
 use Rattle.symbol_ranges.specs.declared.symbols.Symbol.{Symbol}
-use Rattle.symbol_ranges.specs.Lines.{meets, covers}
-use Rattle.symbol_ranges.specs.Index.{is_before, symbol_at, shown, blank, Rises, AreWithin, IsIndexed}
+use Rattle.symbol_ranges.specs.Lines.{meets}
+use Rattle.symbol_ranges.specs.Index.{is_before, symbol_at, shown, Rises, AreWithin, IsIndexed}
 use Rattle.symbol_ranges.specs.Reads.{Meeting}
 use Rattle.symbol_ranges.proofs.Order.{before_trans, early_meets_none, later_meets_none}
 

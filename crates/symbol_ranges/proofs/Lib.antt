@@ -4,3 +4,4 @@ pub mod Adding
 pub mod Cutting
 pub mod Walking
 pub mod Exclusive
+pub mod Shortness

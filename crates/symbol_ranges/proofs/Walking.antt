@@ -1,5 +1,5 @@
 -- Lines of a symbol list, read one after another.
-use Rattle.std.proofs.Common.{◌≡◌, ◌≢◌, ℕ, suc, ◌+◌, ◌≤◌, true, false, List, [], ◌∷◌, ◌++◌, length, refl, ap, sym, subst, ◌∙◌, arith, Option, Some, None, Result, Ok, Err, append_assoc}
+use Rattle.std.proofs.Common.{◌≡◌, ◌≢◌, ℕ, ◌+◌, ◌≤◌, true, false, List, [], ◌∷◌, ◌++◌, length, refl, ap, sym, subst, ◌∙◌, arith, Option, Some, None, Result, Ok, Err, append_assoc}
 use Rattle.std.specs.Option.{IfSome}
 use Rattle.std.specs.Io.KnownBytes.{Consumes, IsAtEnd, prepend_known}
 use Rattle.std.proofs.KnownBytes.{Consumes-trans, Consumes-nil, prepend_known-nil}
@@ -11,7 +11,7 @@ use Rattle.line_reader.specs.declared.faults.Ending.TheVariants as endings
 use Rattle.line_reader.specs.Reading.{ReadsLine}
 use Rattle.line_reader.proofs.Fronts.{taken_front, at_end}
 use Rattle.symbol_ranges.specs.declared.symbols.Symbol.{Symbol}
-use Rattle.symbol_ranges.specs.declared.symbols.TheConstants.{MOST_LINE_BYTES}
+use Rattle.symbol_ranges.specs.declared.symbols.TheConstants.{MOST_LINES, MOST_LINE_BYTES}
 use Rattle.symbol_ranges.specs.declared.refusals.SymbolWhy.{SymbolWhy}
 use Rattle.symbol_ranges.specs.declared.refusals.SymbolWhy.TheVariants.{Unfinished, BadLine}
 use Rattle.symbol_ranges.specs.declared.refusals.SymbolLineError.{SymbolLineError}
@@ -130,3 +130,9 @@ reads_all (Some bytes) mid new symbols now w s = record {
   text = whole_text bytes (text_of_lines w.lines ++ []) new (Consumes-trans (Some bytes) mid new (text_of_lines w.lines) [] w.taken s.1) s.2 ∙ append-nil (text_of_lines w.lines);
   says = w.says ∙ ap (λ (l : List Symbol). Some l) (sym s.0);
 }
+
+-- a line that is refused is at most the one behind the last that a list may have
+pub within : (old : Option (List ℕ)) (symbols : List Symbol) (refusal : SymbolRefusal) → length symbols ≤ MOST_LINES → IfBad (Stops old symbols) refusal → IfBad (λ line why. line ≤ MOST_LINES + 1) refusal
+within old symbols (Bad line why) few s = omega (arith, few, s.0)
+within old symbols ReadFault few s = tt
+within old symbols Memory few s = tt

@@ -9,7 +9,7 @@ mod reading;
 mod refusals;
 mod symbols;
 
-pub use laws::one_reading;
+pub use laws::{MOST_LIST_BYTES, lists_are_short, one_reading};
 pub use reading::read_symbols;
 pub use refusals::{SymbolLineError, SymbolRefusal, SymbolWhy};
 pub use symbols::{MOST_LINE_BYTES, MOST_LINES, Symbols};

@@ -13,12 +13,14 @@ use outside_io::Source;
 use std::alloc::Global;
 
 /// Reads a symbol list to its end, or to its first bad line. `Bad` comes exactly where the input is no list; at `Ok`
-/// nothing of the input is left unread, and an input that never ends is refused.
+/// nothing of the input is left unread. An input that never ends is refused, whatever its bytes are: the line that `Bad`
+/// names is at most the one behind the last that a list may have, and a line is read to 601 bytes at most.
 pub fn read_symbols<S: Source>(alloc: Global, source: &mut S) -> Result<Symbols, SymbolRefusal>
     ensures reads { IfOk result (λ symbols.
         IfSome (S.left source.old) (λ bytes. Reads bytes symbols)) }
     ensures whole { OnOk result (IsAtEnd (S.left source.new)) }
     ensures bad { OnBad (IsFirstBad (S.left source.old)) result }
+    ensures within { OnBad (λ line why. line ≤ MOST_LINES + 1) result }
     ensures faults { TellsFaults (S.faults source.old) (S.faults source.new) result }
 {
     let mut symbols = Symbols::new(alloc);

@@ -1,5 +1,5 @@
 -- Only the symbol at the place may have an offset that is searched.
-use Rattle.std.proofs.Common.{rules, arith, ◌≡◌, ◌<◌, ◌∙◌, true, false, get_or, length, ap, sym, Some}
+use Rattle.std.proofs.Common.{rules, ◌≡◌, ◌<◌, ◌∙◌, true, false, get_or, length, ap, sym, Some}
 use Rattle.std.proofs.lemmas.List.{get_or_default}
 use Rattle.symbol_ranges.specs.Lines.{meets}
 use Rattle.symbol_ranges.specs.Index.{symbol_at, blank}

@@ -3,7 +3,7 @@ use Rattle.std.proofs.Common.{◌∙◌, [], arith}
 use Rattle.std.specs.Io.KnownBytes.{prepend_known}
 use Rattle.std.proofs.lemmas.Result.{err_from_is_err_and}
 use Rattle.line_reader.proofs.Fronts.{nothing_left}
-use Rattle.symbol_ranges.proofs.Walking.{first_bad, reads_all, went_on}
+use Rattle.symbol_ranges.proofs.Walking.{first_bad, reads_all, went_on, within}
 use Rattle.symbol_ranges.proofs.reading.read_symbols.Goals as goal
 
 pub returns-in_err-more-clause-bad : goal.returns-in_err-more-clause-bad
@@ -23,3 +23,7 @@ loop-number-preserved g c = let s = rw c.in-true.is at c.in_ok-more.ensures.step
   few = c.in_ok-more.ensures.few;
   faults = c.in_ok-more.ensures.faults ∙ c.loop-number.invariant.faults;
 }
+
+pub returns-in_err-more-clause-within : goal.returns-in_err-more-clause-within
+returns-in_err-more-clause-within g c = let p = err_from_is_err_and c.from_residual-in_err-more.result c.from_residual-in_err-more.ensures.1 in
+    rw (p.1, p.2) (within (prepend_known c.loop-number.reader (g.S.Source.left c.loop-number.source)) c.loop-number.symbols c.in_err-more.field-0.0 c.loop-number.invariant.few c.in_err-more.ensures.stops)
