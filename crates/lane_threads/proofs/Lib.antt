@@ -3,3 +3,4 @@ pub mod Pairing
 pub mod Starting
 pub mod Yielded
 pub mod Keeping
+pub mod Turns

@@ -1,7 +1,7 @@
 //! The lanes of a run while it goes on: each is in its thread, or here where none could be started.
 ghost use Rattle.std.specs.Prelude.{◌≡◌, ◌≤◌, List, [], length, vec_capacity};
 ghost use Rattle.lane_threads.specs.Pairs.{Pairwise};
-ghost use Rattle.lane_threads.specs.Promising.{IsOfWork, Runs};
+ghost use Rattle.lane_threads.specs.Promising.{IsOfWork, Runs, TookStep};
 ghost use Rattle.lane_threads.specs.Working.{Working, IsEnded};
 
 use crate::starts::{ComesBack, Start, Waiting};
@@ -76,7 +76,8 @@ fn start_one<'s, E, R: Wait + Sync, G: Gate + Sync>(
 
 /// One turn of each lane that has no thread.
 pub fn step_here(runners: &mut Vec<Runner>)
-    ensures { (works : List Working) → Pairwise Runs works runners.old.items
+    ensures steps { Pairwise TookStep runners.old.items runners.new.items }
+    ensures runs { (works : List Working) → Pairwise Runs works runners.old.items
         → Pairwise Runs works runners.new.items }
 {
     for i in 0..runners.len() {
@@ -86,7 +87,7 @@ pub fn step_here(runners: &mut Vec<Runner>)
 
 // One turn, if the lane has no thread.
 fn step_one(runner: &mut Runner)
-    ensures { (work : Working) → Runs work runner.old → Runs work runner.new }
+    ensures { TookStep runner.old runner.new }
 {
     match runner {
         Runner::Away(_) => {}

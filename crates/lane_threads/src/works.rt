@@ -1,7 +1,7 @@
 //! A lane with its shared side, which go through a run together.
 ghost use Rattle.std.specs.Prelude.{◌≡◌, true};
 ghost use Rattle.driver_model.specs.declared.answers.Turn.TheVariants.{Done};
-ghost use Rattle.lane_threads.specs.Working.{IsLater};
+ghost use Rattle.lane_threads.specs.Working.{TookTurn};
 
 use cpu_lane::{Lane, Turn};
 use shared_side::SharedLane;
@@ -27,9 +27,9 @@ impl Model for Work {
 }
 
 impl Work {
-    /// A turn of the lane.
+    /// A turn of the lane on its side, over the words that it reads there.
     pub fn turn(&mut self) -> Turn
-        ensures later { IsLater self.old self.new }
+        ensures turn { TookTurn self.old result self.new }
         ensures done { result ≡ Done → self.new.lane.driver.done ≡ true }
     {
         self.lane.turn(&mut self.side)

@@ -98,7 +98,7 @@ all_ended pace trace cpu [] (e ∷ es) sides start p = absurd p
 all_ended pace trace cpu (w ∷ ws) [] sides start p = absurd p
 all_ended pace trace cpu (w ∷ ws) (e ∷ es) [] start p = absurd start
 all_ended pace trace cpu (w ∷ ws) (e ∷ es) (s ∷ ss) start p = (
-  record { setup = p.0.later.setup ∙ start.0.setup; buckets = p.0.later.buckets ∙ start.0.buckets; done = p.0.done },
+  record { setup = p.0.later.same.setup ∙ start.0.setup; buckets = p.0.later.same.buckets ∙ start.0.buckets; done = p.0.done },
   all_ended pace trace (cpu + 1) ws es ss start.1 p.1,
 )
 
@@ -108,7 +108,7 @@ ends_at_end pace trace works ended sides after start p fixed =
     pairs_then AreEndsOfOne (λ (s t : Shown). t.fixed ≡ s.fixed) AreEndsOfOne ended sides after
     (λ (e : Working) (s t : Shown) ends same. ends ∙ ap (λ (z : Fixed). z.ends) (sym same))
     (pairs_then (λ (e w : Working). IsEnded w e) AreEndsOfOne AreEndsOfOne ended works sides
-    (λ (e w : Working) (s : Shown) is ends. ap (λ (z : Fixed). z.ends) is.later.fixed ∙ ends)
+    (λ (e w : Working) (s : Shown) is ends. ap (λ (z : Fixed). z.ends) is.later.same.fixed ∙ ends)
     (turned IsEnded works ended p) (ends_at_start pace trace 0 works sides start))
     (fixed_pairs sides after fixed)
 

@@ -1,12 +1,11 @@
--- whatever these lanes run, they run
-use Rattle.std.proofs.Common.{◌≡◌, List, length}
-use Rattle.lane_threads.specs.Pairs.{Pairwise}
-use Rattle.lane_threads.specs.Promising.{Runs}
-use Rattle.lane_threads.specs.Working.{Working}
+-- the lanes before the index were stepped, and the others are as they were
+use Rattle.std.proofs.Common.{◌≡◌, length}
+use Rattle.lane_threads.proofs.Turns.{AreStepped}
 use Rattle.lane_threads.proofs.runners.step_here.Given as goal
 
 abbrev pub invariant-loop-i : goal.invariant-loop-i
 invariant-loop-i l = record {
-  runs : (works : List Working) → Pairwise Runs works l.fn.runners.items → Pairwise Runs works l.runners.items;
-  count : l.i-end ≡ length l.runners.items;
+  steps : AreStepped l.i l.fn.runners.items l.runners.items;
+  count : l.i-end ≡ length l.fn.runners.items;
+  many : length l.runners.items ≡ length l.fn.runners.items;
 }

@@ -39,7 +39,7 @@ loop-preserved-in-Went g c =
       since = r.since;
       early = r.early;
       idle = r.idle;
-      runners = λ works have. c.step_here.ensures works (i.runners works have);
+      runners = λ works have. c.step_here.ensures.runs works (i.runners works have);
       fixed = r.fixed;
       origin = e.origin ∙ i.origin;
     }
@@ -58,7 +58,7 @@ loop-preserved g c =
       since = r.since;
       early = r.early;
       idle = r.idle;
-      runners = λ works have. c.step_here.ensures works (i.runners works have);
+      runners = λ works have. c.step_here.ensures.runs works (i.runners works have);
       fixed = r.fixed;
       origin = e.origin ∙ i.origin;
     }
