@@ -38,8 +38,8 @@ KeepsBooks files faults moment left_since false epoch daemon store (Err fault) n
 
 -- A part was committed: nothing is gathered for the next one, and the database is at this epoch and at the task's run.
 pub record IsSettled (task : Task) (epoch : ℕ) (progress : Progress) : Type 0 where
-  pub gathers : Gathers progress.gathered task.trace.now.images.items (records_of task) []
-  pub images : ImagesAreIn task.trace.now.images.items progress.gathered
+  pub gathers : Gathers progress.gathered task.outline.now.images.items (records_of task) []
+  pub images : ImagesAreIn task.outline.now.images.items progress.gathered
   pub epochs : EpochsAreUpTo epoch progress.gathered
   pub works : failed_of progress.db ≡ None
   pub run : task.run ≡ (head_of progress.db).runs
@@ -51,9 +51,9 @@ epoch_next epoch notice = epoch + (if begins_epoch notice then 1 else 0)
 
 -- A part may be committed with this epoch afterwards, the last one or the next.
 pub record IsReady (task : Task) (epoch : ℕ) (progress : Progress) : Type 0 where
-  pub gathers : Gathers progress.gathered task.trace.now.images.items (records_of task)
+  pub gathers : Gathers progress.gathered task.outline.now.images.items (records_of task)
       progress.noted.items
-  pub images : ImagesAreIn task.trace.now.images.items progress.gathered
+  pub images : ImagesAreIn task.outline.now.images.items progress.gathered
   pub epochs : EpochsAreUpTo epoch progress.gathered
   pub drains : All IsDrained progress.noted.items
   pub works : failed_of progress.db ≡ None

@@ -6,5 +6,5 @@ use Rattle.dcpid_core.proofs.progress.Progress.at_start.Goals as goal
 
 pub returns-clause-sound : goal.returns-clause-sound
 returns-clause-sound c = sound_start c.args.task.now _ refl refl (search rules) c.last_epoch-epoch.ensures c.args.db.range c.new.ensures
-    (c.new-2.ensures.nothing c.args.task.now.trace.now.images.items (records_of c.args.task.now)) (c.new-2.ensures.images c.args.task.now.trace.now.images.items) (c.new-2.ensures.epochs c.last_epoch-epoch.result)
+    (c.new-2.ensures.nothing c.args.task.now.outline.now.images.items (records_of c.args.task.now)) (c.new-2.ensures.images c.args.task.now.outline.now.images.items) (c.new-2.ensures.epochs c.last_epoch-epoch.result)
     c.new-4.ensures.items c.requires.works c.requires.run refl

@@ -10,7 +10,7 @@ returns-clause-current g c =
     let e : c.copy_to.new.out.items ≡ g.B.Body.entries c.args.body.now = search rules in
     current_noted c.args.task.now c.args.self.now _ c.args.self.now.applied c.args.self.now.epoch (record { note = c.args.note; entries = g.B.Body.entries c.args.body.now })
     c.requires.task c.requires.applied c.requires.entries c.requires.current (search rules) (search rules)
-    (subst (λ es. Gathers c.gather.new.into c.args.task.now.trace.now.images.items (records_of c.args.task.now) (c.args.self.now.noted.items ++ drained (records_of c.args.task.now) c.args.self.now.applied c.args.self.now.epoch (record { note = c.args.note; entries = es }) ∷ [])) e
-    (c.in_ok-known.ensures.gathered c.args.task.now.trace.now.images.items (records_of c.args.task.now) c.args.self.now.applied c.args.self.now.noted.items c.requires.current.mappings c.requires.current.gathers))
-    (c.in_ok-known.ensures.images c.args.task.now.trace.now.images.items (records_of c.args.task.now) c.args.self.now.applied c.requires.current.mappings (c.requires.task.images c.args.self.now.applied) c.requires.current.images)
+    (subst (λ es. Gathers c.gather.new.into c.args.task.now.outline.now.images.items (records_of c.args.task.now) (c.args.self.now.noted.items ++ drained (records_of c.args.task.now) c.args.self.now.applied c.args.self.now.epoch (record { note = c.args.note; entries = es }) ∷ [])) e
+    (c.in_ok-known.ensures.gathered c.args.task.now.outline.now.images.items (records_of c.args.task.now) c.args.self.now.applied c.args.self.now.noted.items c.requires.current.mappings c.requires.current.gathers))
+    (c.in_ok-known.ensures.images c.args.task.now.outline.now.images.items (records_of c.args.task.now) c.args.self.now.applied c.requires.current.mappings (c.requires.task.images c.args.self.now.applied) c.requires.current.images)
     (c.in_ok-known.ensures.epochs c.args.self.now.epoch (omega arith) c.requires.current.epochs)
