@@ -66,6 +66,7 @@ impl Replay<'_> {
     {
         laws();
         records_can_be_stored();
+        drop(self.sides);
         let ended = ended_lanes(alloc, self.lanes)?;
         let kept = self.daemon.finish(alloc, store, ended.losses)?;
         Ok(Outcome {
