@@ -35,7 +35,7 @@ pub(crate) fn print_run<R: Threads + Wait + Sync, S: Source, D: Store, W: Sink, 
     ensures origin { D.origin store.new ≡ D.origin store.old }
 {
     let Begun { db, trace } = begin(alloc, source, store)?;
-    let ran = run(rt, alloc, &trace, db, store, pace, gate);
+    let ran = run(rt, alloc, trace, db, store, pace, gate);
     print_summary(alloc, ran, out)
 }
 

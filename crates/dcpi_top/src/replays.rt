@@ -37,28 +37,28 @@ pub(crate) fn replay_text<S: Source, D: Store>(
 {
     let db = open_database(alloc, store)?;
     let trace = read_trace(alloc, source)?;
-    run_text(alloc, &trace, db, store)
+    run_text(alloc, trace, db, store)
 }
 
 /// Replays a trace into an opened database, and gives the summary of the run.
 fn run_text<D: Store>(
     alloc: Global,
-    trace: &Trace,
+    trace: Trace,
     db: Database,
     store: &mut D,
 ) -> Result<Vec<u8>, Refusal>
     requires { failed_of db ≡ None }
-    ensures gives { (input : Stream) → IsReadInto input (recording_of trace.now)
+    ensures gives { (input : Stream) → IsReadInto input (recording_of trace)
         (seen D.files D.faults store.old store.new) (head_of db) →
         GivesText (λ text. text.items) commands.Replay input
         (seen D.files D.faults store.old store.new) result }
-    ensures leaves { (input : Stream) → IsReadInto input (recording_of trace.now)
+    ensures leaves { (input : Stream) → IsReadInto input (recording_of trace)
         (seen D.files D.faults store.old store.new) (head_of db) →
         LeavesAtAnyMoment D.files D.moment D.left_since (Some commands.Replay) input
         store.old store.new (status_in (refused result)) }
     ensures origin { D.origin store.new ≡ D.origin store.old }
 {
-    traces_are_fit(trace);
+    traces_are_fit(&trace);
     records_can_be_stored();
     files_stand_for_one_database();
     let outcome = replay(alloc, trace, db, store)?;

@@ -19,7 +19,7 @@ pub fn made_summary(alloc: Global, seed: u64, samples: u32) -> Result<Vec<u8>, A
 {
     let trace = trace_of(alloc, seed, samples)?;
     made_run_is_whole(&trace, seed, samples);
-    let text = run_text(alloc, &trace)?;
+    let text = run_text(alloc, trace)?;
     Ok(text)
 }
 

@@ -22,11 +22,11 @@ use summary_text::summary_text;
 use trace_model::Trace;
 
 /// The summary of the first run of a made trace.
-pub(crate) fn run_text(alloc: Global, trace: &Trace) -> Result<Vec<u8>, AllocError>
-    requires { IsMade (recording_of trace.now) }
-    ensures { IfOk result (λ text. text.items ≡ first_summary (recording_of trace.now)) }
+pub(crate) fn run_text(alloc: Global, trace: Trace) -> Result<Vec<u8>, AllocError>
+    requires { IsMade (recording_of trace) }
+    ensures { IfOk result (λ text. text.items ≡ first_summary (recording_of trace)) }
 {
-    traces_are_fit(trace);
+    traces_are_fit(&trace);
     records_can_be_stored();
     let outcome = first_run(alloc, trace)?;
     let text = summary_text(alloc, &outcome.kept, &outcome.stats)?;
@@ -34,11 +34,11 @@ pub(crate) fn run_text(alloc: Global, trace: &Trace) -> Result<Vec<u8>, AllocErr
 }
 
 // Replays a made trace into an empty database: the store cannot fail, no file is bad, and the run fits.
-fn first_run(alloc: Global, trace: &Trace) -> Result<Outcome, AllocError>
-    requires { IsMade (recording_of trace.now) }
-    ensures { IfOk result (IsReplayOf (recording_of trace.now) empty_head) }
+fn first_run(alloc: Global, trace: Trace) -> Result<Outcome, AllocError>
+    requires { IsMade (recording_of trace) }
+    ensures { IfOk result (IsReplayOf (recording_of trace) empty_head) }
 {
-    made_traces_fit(trace);
+    made_traces_fit(&trace);
     fitting_runs_do_not_stop();
     let mut store = MemStore::new(alloc, Vec::new(alloc));
     let db = open_empty(alloc, &mut store)?;

@@ -10,7 +10,7 @@ use Rattle.made_runs.proofs.runs.first_run.Goals as goal
 
 pub unreachable-requires-in-Err-Bad : goal.unreachable-requires-in-Err-Bad
 unreachable-requires-in-Err-Bad c =
-    let t = c.args.trace.now in
+    let t = c.args.trace in
     let r = recording_of t in
     goes_through c.fitting_runs_do_not_stop.ensures told_of faults_of moment_of left_of r (head_of c.in_ok-db.db) c.open_empty.new.store c.replay.new.store (Bad c.in-Err-Bad.field-0-0)
     c.in_ok-db.ensures.head c.open_empty.ensures.files (apart t.images.items (said_in r) t.in_order) (c.made_traces_fit.ensures.fits c.requires) refl
@@ -18,7 +18,7 @@ unreachable-requires-in-Err-Bad c =
 
 pub unreachable-requires-in-Err-Full : goal.unreachable-requires-in-Err-Full
 unreachable-requires-in-Err-Full c =
-    let t = c.args.trace.now in
+    let t = c.args.trace in
     let r = recording_of t in
     goes_through c.fitting_runs_do_not_stop.ensures told_of faults_of moment_of left_of r (head_of c.in_ok-db.db) c.open_empty.new.store c.replay.new.store
     (Full c.in-Err-Full.field-0-0 c.in-Err-Full.field-0-1 c.in-Err-Full.field-0-2)

@@ -7,7 +7,7 @@ use Rattle.summary_text.specs.Summaries.{summary_of}
 use Rattle.made_runs.proofs.runs.run_text.Goals as goal
 
 pub summary_text-requires : goal.summary_text-requires
-summary_text-requires c = let trace = recording_of c.args.trace.now in
+summary_text-requires c = let trace = recording_of c.args.trace in
     subst IsRecorded (sym c.in_ok-outcome.ensures.kept)
     (c.records_can_be_stored.ensures.tallied Free trace 1 0 (trace.schedule ++ rounds (enough_rounds trace) trace) c.traces_are_fit.ensures)
 
