@@ -10,7 +10,8 @@ import subprocess
 import sys
 import tempfile
 
-SECONDS = 20
+# after this a run counts as one that hangs: long, since a busy machine may give a run with threads a second in a minute
+SECONDS = 120
 WORKERS = 2
 
 # how many numbers of calls are tried before it is seen whether any of them was reached
@@ -105,11 +106,12 @@ class Dcpi:
 def until_fewer(case):
     """What came of a case with the first call refused, with the second, and so on, until no run makes so many.
 
-    `case` answers nothing where its run made fewer calls. How many a run with threads makes, differs from run to run.
+    `case` answers whether its run made so many calls, and what came of it, if that is to be told. How many a run with
+    threads makes, differs from run to run.
     """
     with concurrent.futures.ThreadPoolExecutor(WORKERS) as workers:
         first, reached = 1, True
         while reached:
-            came = [one for one in workers.map(case, range(first, first + BATCH)) if one]
-            yield from came
-            first, reached = first + BATCH, bool(came)
+            tried = list(workers.map(case, range(first, first + BATCH)))
+            yield from (came for _, came in tried if came)
+            first, reached = first + BATCH, any(made for made, _ in tried)

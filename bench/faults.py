@@ -72,6 +72,11 @@ def stopped(what, done, state, states):
     return ""
 
 
+def unrefused(done):
+    """What is wrong with a run that ended before the call to refuse."""
+    return "" if done.status == 0 else f"status {done.status}, and no call was refused"
+
+
 def tallies(summary):
     """The lines of a summary that are those of a listing of its run."""
     return [line for line in summary.splitlines() if line.startswith(b"c ")]
@@ -85,13 +90,13 @@ def refuse_each(dcpi, what, way, name, tried):
         folder = dcpi.folder()
         words = words_of(way, folder)
         done, made = dcpi.refuse(what, number, words, TRACES[name])
-        problem = stopped(what, done, dcpi.state(folder), states) if made else ""
+        problem = stopped(what, done, dcpi.state(folder), states) if made else unrefused(done)
         again = dcpi.run(words, TRACES[name]).status if made and not problem else 0
         shutil.rmtree(folder)
         if again != 0:
             problem = f"the next run answers {again}"
         came = f"status {done.status}:", f"{' '.join(way)}, {name}, {number}", problem
-        return came if made else None
+        return made, came if made or problem else None
 
     none = True
     for came in until_fewer(case):
@@ -122,12 +127,13 @@ def refuse_listings(dcpi, what):
 
         def case(number, words=words, given=given, whole=whole):
             done, made = dcpi.refuse(what, number, words, given)
-            problem = ""
-            if done.status not in FAULTS[what]:
+            problem = "" if made else unrefused(done)
+            if made and done.status not in FAULTS[what]:
                 problem = f"status {done.status}: {done.err.decode()}"
             elif not whole.out.startswith(done.out) or (done.status == 0 and done.out != whole.out):
                 problem = "what is printed is no front of the text, or with the status 0 not all"
-            return (f"status {done.status}:", f"{words[0]}, {number}", problem) if made else None
+            came = f"status {done.status}:", f"{words[0]}, {number}", problem
+            return made, came if made or problem else None
 
         for came in until_fewer(case):
             tried.add(*came)
