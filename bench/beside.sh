@@ -23,6 +23,15 @@ build_yardstick() {
     fi
 }
 
+# repeats the samples of $recording $1 times, each processor's in their order, up to 2,000,000 of them; $recording is then the longer one
+repeat_samples() {
+    awk -v copies="$1" -v most=2000000 '
+        $1 == "s" { for (i = 0; i < copies && taken < most; i++) { print; taken++ } next }
+        { print }
+    ' "$recording" >"$scratch/repeated.trace"
+    recording=$scratch/repeated.trace
+}
+
 # prints the smaller of two numbers
 smaller() {
     if [ "$1" -lt "$2" ]; then echo "$1"; else echo "$2"; fi

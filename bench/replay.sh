@@ -15,13 +15,7 @@ trap 'rm -rf "$scratch"' EXIT
 build_dcpi
 build_yardstick
 
-if [ "$copies" -gt 1 ]; then
-    awk -v copies="$copies" -v most=2000000 '
-        $1 == "s" { for (i = 0; i < copies && taken < most; i++) { print; taken++ } next }
-        { print }
-    ' "$recording" >"$scratch/repeated.trace"
-    recording=$scratch/repeated.trace
-fi
+if [ "$copies" -gt 1 ]; then repeat_samples "$copies"; fi
 samples=$(awk '$1 == "s" { n++ } END { print n + 0 }' "$recording")
 
 ours=999999999

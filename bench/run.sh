@@ -1,7 +1,8 @@
 #!/bin/sh
 # Runs a recording into a new folder by threads, with `dcpi run` at both paces, and replays it, five times each in turn. Prints the best
 # time of each, how many times as fast as the replay each pace was, and in how many runs at the free pace how many samples were lost.
-# usage: bench/run.sh [RECORDING], by default the made trace of 2,000,000 samples on four processors (`dcpi make 7 2000000 --trace`)
+# usage: bench/run.sh [RECORDING [COPIES]], by default the made trace of 2,000,000 samples on four processors (`dcpi make 7 2000000 --trace`)
+# With COPIES the samples of the recording are repeated so many times, each processor's in their order, up to 2,000,000 of them.
 set -eu
 scratch=$(mktemp -d)
 trap 'rm -rf "$scratch"' EXIT
@@ -10,6 +11,7 @@ build_dcpi
 
 if [ $# -gt 0 ]; then
     recording=$(cd "$(dirname "$1")" && pwd)/$(basename "$1")
+    if [ "${2:-1}" -gt 1 ]; then repeat_samples "$2"; fi
 else
     recording=$scratch/made.trace
     "$dcpi" make 7 2000000 --trace >"$recording"
