@@ -17,4 +17,6 @@ mod model;
 #[cfg(test)]
 mod sources;
 #[cfg(test)]
+mod stops;
+#[cfg(test)]
 mod traces;
