@@ -1,7 +1,7 @@
 //! Each byte of a head, of a profile and of a segment is changed to other bytes: the file is named as bad, or what is
 //! printed is what the changed file says.
 use crate::calls::{Asked, gives, put_file, store_of};
-use crate::traces::{CAT, FOLD_FILES, FOLD_HEAD, FOLD_PART, FOLD_PROFILE, RUNS};
+use crate::traces::{CAT, EVENTS, FOLD_FILES, FOLD_HEAD, FOLD_PART, FOLD_PROFILE, RUNS, with_byte};
 use std::alloc::Global;
 use std::process::Abort;
 use std::test::Fail;
@@ -33,15 +33,6 @@ fn prints<'a>(words: &'a [&'a str], out: &'a [u8]) -> Asked<'a> {
         out,
         err: b"",
     }
-}
-
-// The bytes with one changed.
-fn with_byte(alloc: Global, bytes: &[u8], place: usize, byte: u8) -> Result<Vec<u8>, Fail> {
-    let mut changed = bytes.to_vec(alloc)?;
-    if let Some(old) = changed.get_mut(place) {
-        *old = byte;
-    }
-    Ok(changed)
 }
 
 // A call over the database of three samples, where one file has other bytes.
@@ -172,8 +163,6 @@ const PART_BYTES: [(usize, u8, u8, Says); 16] = [
     (20, 0, 7, Says::Flag),
     (21, 1, 127, Says::Count),
 ];
-
-const EVENTS: [&str; 4] = ["cycles", "imiss", "dmiss", "branchmp"];
 
 // What is printed of the run where a byte says this.
 fn run_of(alloc: Global, says: Says, byte: u8) -> Result<String, Fail> {

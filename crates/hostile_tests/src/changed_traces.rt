@@ -2,7 +2,7 @@
 //! or what is counted is what the changed trace says, and each of its samples is counted.
 use crate::calls::{Given, call_of, has_alone, sound_store};
 use crate::model::{Told, reading_of};
-use crate::traces::{CAT, REPLAY, work_lines};
+use crate::traces::{CAT, REPLAY, with_byte, work_lines};
 use std::alloc::Global;
 use std::process::Abort;
 use std::test::Fail;
@@ -68,15 +68,6 @@ fn is_replayed(rt: &impl Abort, alloc: Global, text: &[u8]) -> Result<(), Fail> 
             counts(rt, alloc, &listed, &lines)
         }
     }
-}
-
-// The trace with one byte changed.
-fn with_byte(alloc: Global, trace: &[u8], place: usize, byte: u8) -> Result<Vec<u8>, Fail> {
-    let mut changed = trace.to_vec(alloc)?;
-    if let Some(old) = changed.get_mut(place) {
-        *old = byte;
-    }
-    Ok(changed)
 }
 
 // The line feed, and a digit with which most lines stay good.

@@ -1,6 +1,7 @@
 //! What a trace says, by the rules of the format alone: the number of its first bad line, or its counts where no record
 //! stands between a sample and its drain. It knows the forms of lines that the work of four processors has, for no
 //! change of one byte makes another.
+use crate::traces::EVENTS;
 use std::alloc::Global;
 use std::test::Fail;
 use text_num::{put_dec, put_hex, read_dec, read_hex};
@@ -66,8 +67,6 @@ const PIDS: u64 = 1 << 32;
 
 // The greatest end of a mapping.
 const LAST_END: u64 = u64::MAX - 3;
-
-const EVENTS: [&str; 4] = ["cycles", "imiss", "dmiss", "branchmp"];
 
 fn is_word(text: &[u8], word: &str) -> bool {
     text == word.as_bytes()

@@ -5,6 +5,9 @@ use std::test::Fail;
 /// The short header of one processor.
 pub const HEADER: &[u8] = b"dcpi-trace 1 cpus 1\n";
 
+/// The names of the events, by their codes.
+pub const EVENTS: [&str; 4] = ["cycles", "imiss", "dmiss", "branchmp"];
+
 /// Three samples of one instruction.
 pub const FOLD: &[u8] =
     b"dcpi-trace 1 cpus 1\nload 7 10000 2000 /bin/app\ns 0 7 10008 cycles\ns 0 7 10008 cycles\ns 0 7 10008 cycles\nend\n";
@@ -65,6 +68,15 @@ pub fn put_times(text: &mut Vec<u8>, times: u32, bytes: &[u8]) -> Result<(), Fai
         text.extend_from_slice(bytes)?;
     }
     Ok(())
+}
+
+/// The bytes with the one at this place changed; the same where the place is behind them.
+pub fn with_byte(alloc: Global, bytes: &[u8], place: usize, byte: u8) -> Result<Vec<u8>, Fail> {
+    let mut changed = bytes.to_vec(alloc)?;
+    if let Some(old) = changed.get_mut(place) {
+        *old = byte;
+    }
+    Ok(changed)
 }
 
 /// The summary of the work in an empty database.
