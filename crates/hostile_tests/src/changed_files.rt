@@ -79,7 +79,8 @@ fn changes_head(rt: &impl Abort, alloc: Global, place: usize, byte: u8) -> Resul
     let is_same = head.as_slice() == FOLD_HEAD;
     let is_name = (IMAGE_AT..IMAGE_END).contains(&place) && byte.is_ascii_graphic();
     if is_same || is_name || (place == EPOCH_AT && byte == b'1') {
-        let text = counted(alloc, &head[IMAGE_AT..IMAGE_END], 8, 3)?;
+        let image = head.get(IMAGE_AT..IMAGE_END).ok_or("no image")?;
+        let text = counted(alloc, image, 8, 3)?;
         return gives_over(rt, alloc, "head.1", &head, &prints(CAT, &text));
     }
     if place == EVENT_AT && (b'1'..=b'3').contains(&byte) {
@@ -111,8 +112,9 @@ fn changes_profile(rt: &impl Abort, alloc: Global, place: usize, byte: u8) -> Re
     let is_distance = place == 2 && byte < 128;
     let is_count = place == 3 && (1..128).contains(&byte);
     if is_same || is_distance || is_count {
-        let offset = u64::from(profile[2]) * 4;
-        let text = counted(alloc, b"/bin/app", offset, profile[3])?;
+        let distance = *profile.get(2).ok_or("no distance")?;
+        let count = *profile.get(3).ok_or("no count")?;
+        let text = counted(alloc, b"/bin/app", u64::from(distance) * 4, count)?;
         return gives_over(rt, alloc, "p.0.0.0.1", &profile, &prints(CAT, &text));
     }
     gives_over(rt, alloc, "p.0.0.0.1", &profile, &PROFILE_IS_BAD)

@@ -261,9 +261,11 @@ const CALLS_BEFORE: u64 = 5;
 // Each call of the store behind this one fails, up to the last write of a replay, so that a refusal shows that it made none.
 fn failing_behind(alloc: Global, last: u64) -> Result<Vec<StoreFail>, Fail> {
     let mut fails = Vec::new(alloc);
-    for call in last + 1..last + 6 {
-        let left = Left::Absent;
-        fails.push(StoreFail { call, left })?;
+    for behind in 1..6 {
+        fails.push(StoreFail {
+            call: last.saturating_add(behind),
+            left: Left::Absent,
+        })?;
     }
     Ok(fails)
 }
