@@ -84,7 +84,7 @@ epochs_are_kept = refl
 epochs_parts : part_count (records_in epochs) ≡ 2
 epochs_parts = refl
 
--- part 0 adds in epoch 0 and leaves epoch 1 the last one; part 1 adds in epoch 1
+-- the first part adds in epoch 0 and leaves epoch 1 the last one; the second adds in epoch 1
 epochs_first : (part_adds epochs epochs_kept 0).known 0 image_a 0 0 ≡ 1
 epochs_first = refl
 
@@ -109,7 +109,7 @@ epochs_last = refl
 epochs_last_of_all : epoch_after_parts 0 (records_in epochs) 2 ≡ 1
 epochs_last_of_all = refl
 
--- the segments: part 0 is not the last and has no losses, part 1 is and has them
+-- the segments: the first is not the last and has no losses, the second is and has them
 abbrev pub first_segment : Segment
 first_segment = record { run = 1; part = 0; last = false; first_epoch = 0; drains = first_drain ∷ []; losses = [] }
 

@@ -136,8 +136,8 @@ impl Catalog {
     }
 }
 
-/// A copy of each name.
-fn copies_of(alloc: Global, names: &[Name]) -> Result<Vec<Name>, AllocError>
+/// Equal names, in their order. It fails only for want of memory.
+pub fn copies_of(alloc: Global, names: &[Name]) -> Result<Vec<Name>, AllocError>
     ensures { IfOk result (λ copies. copies.items ≡ names.now) }
 {
     let mut copies = Vec::with_capacity(alloc, names.len())?;

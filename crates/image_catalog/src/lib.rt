@@ -6,4 +6,4 @@
 mod catalog;
 mod index;
 
-pub use catalog::{Catalog, CatalogError, MOST_IMAGES};
+pub use catalog::{Catalog, CatalogError, MOST_IMAGES, copies_of};

@@ -37,7 +37,7 @@ pub(crate) const FIRST_EPOCH: &[u8] = &[
 
 /// The last part of run 1, in its second epoch: the same sample again.
 pub(crate) const SECOND_EPOCH: &[u8] = &[
-    1, 1, 1, 1, 0, 1, // part 1, the last
+    1, 1, 1, 1, 0, 1, // the last part
     2, 1, 0, 2, 2, 2, 5, 0, 0, 1, 7, 0x80, 0x80, 1, 1, 1, 1, 0,
 ];
 

@@ -2,6 +2,8 @@
 
 ghost use Rattle.trace_model.specs.Recording.{AreGood, InOrder};
 
+use image_catalog::copies_of;
+use std::alloc::{AllocError, Global};
 use std::snapshot::Snapshot;
 use text_num::Name;
 use trace_model::{Line, Step, Trace};
@@ -27,7 +29,7 @@ pub struct Outline {
 }
 
 impl Outline {
-    ghost use Rattle.std.specs.Prelude.{◌≡◌};
+    ghost use Rattle.std.specs.Prelude.{◌≡◌, IfOk};
     ghost use Rattle.trace_model.specs.Traces.{recording_of};
     ghost use Rattle.trace_outline.specs.Outlines.{outlined};
 
@@ -43,5 +45,21 @@ impl Outline {
             lines: Snapshot::of(&trace.lines),
             schedule: trace.schedule,
         }
+    }
+
+    /// The outline of a trace that stays as it is: its images and its schedule are copied. It fails only for want of memory.
+    pub fn copied(alloc: Global, whole: &Trace) -> Result<Outline, AllocError>
+        ensures { IfOk result (λ outline. outlined outline ≡ recording_of whole.now) }
+    {
+        let images = copies_of(alloc, &whole.images)?;
+        let schedule = Vec::from_slice(alloc, &whole.schedule)?;
+        Ok(Outline {
+            cpus: whole.cpus,
+            buckets: whole.buckets,
+            buffer: whole.buffer,
+            images,
+            lines: Snapshot::of(&whole.lines),
+            schedule,
+        })
     }
 }
