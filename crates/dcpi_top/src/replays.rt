@@ -12,7 +12,7 @@ ghost use Rattle.dcpi_top.specs.Streams.{Stream, seen};
 use crate::refusals::Refusal;
 use epoch_store::{Database, files_stand_for_one_database, open_database};
 use outside_io::Source;
-use replay_drive::replay;
+use replay_drive::replay_owned;
 use run_laws::{records_can_be_stored, traces_are_fit};
 use std::alloc::Global;
 use store_io::Store;
@@ -61,7 +61,7 @@ fn run_text<D: Store>(
     traces_are_fit(&trace);
     records_can_be_stored();
     files_stand_for_one_database();
-    let outcome = replay(alloc, trace, db, store)?;
+    let outcome = replay_owned(alloc, trace, db, store)?;
     let text = summary_text(alloc, &outcome.kept, &outcome.stats)?;
     Ok(text)
 }

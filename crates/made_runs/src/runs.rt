@@ -42,7 +42,7 @@ fn first_run(alloc: Global, trace: Trace) -> Result<Outcome, AllocError>
     fitting_runs_do_not_stop();
     let mut store = MemStore::new(alloc, Vec::new(alloc));
     let db = open_empty(alloc, &mut store)?;
-    match replay(alloc, trace, db, &mut store) {
+    match replay(alloc, &trace, db, &mut store) {
         Ok(outcome) => Ok(outcome),
         Err(DbFault::Memory) => Err(AllocError),
         Err(DbFault::StoreFault) => {

@@ -24,7 +24,7 @@ fn summary_of(alloc: Global, text: Vec<u8>) -> Result<Vec<u8>, Fail> {
     records_can_be_stored();
     let mut store = MemStore::new(alloc, Vec::new(alloc));
     let db = open_database(alloc, &mut store)?;
-    let outcome = replay(alloc, trace, db, &mut store)?;
+    let outcome = replay(alloc, &trace, db, &mut store)?;
     Ok(summary_text(alloc, &outcome.kept, &outcome.stats)?)
 }
 

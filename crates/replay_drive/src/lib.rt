@@ -11,6 +11,6 @@ mod starting;
 
 pub use dcpid_core::Outcome;
 pub use players::{turn_at, turn_of};
-pub use replaying::{MOST_ROUNDS, replay};
+pub use replaying::{MOST_ROUNDS, replay, replay_owned};
 pub use replays::Replay;
 pub use starting::{Players, new_player, new_players};

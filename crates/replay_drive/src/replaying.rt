@@ -32,6 +32,24 @@ pub const MOST_ROUNDS: u64 = 16 * 2_000_000 + 4 * 65_536 + 8;
 /// Where it answers a fault, the parts before it are in the database.
 pub fn replay<D: Store>(
     alloc: Global,
+    trace: &Trace,
+    db: Database,
+    store: &mut D,
+) -> Result<Outcome, DbFault>
+    requires works { failed_of db ≡ None }
+    ensures run { IfOk result (IsReplayOf (recording_of trace.now) (head_of db)) }
+    ensures leaves { Leaves D.files D.faults D.moment D.left_since (recording_of trace.now)
+        (head_of db) store.old store.new (fault_in result) }
+    ensures origin { D.origin store.new ≡ D.origin store.old }
+{
+    let Streams { lanes, records } = cut(alloc, trace)?;
+    let outline = Outline::copied(alloc, trace)?;
+    replay_streams(alloc, &outline, &records, lanes, db, store)
+}
+
+/// The same for a trace that is not used any more: its lines, 40 bytes each, are given back before the first step.
+pub fn replay_owned<D: Store>(
+    alloc: Global,
     trace: Trace,
     db: Database,
     store: &mut D,

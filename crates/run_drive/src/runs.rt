@@ -48,6 +48,31 @@ pub const DAEMON_GATE: u32 = 16;
 pub fn run<R: Threads + Wait + Sync, D: Store, G: Gate + Sync>(
     rt: &R,
     alloc: Global,
+    trace: &Trace,
+    db: Database,
+    store: &mut D,
+    pace: Pace,
+    gate: &G,
+) -> Result<Outcome, DbFault>
+    requires works { failed_of db ≡ None }
+    ensures run { IfOk result (IsRunOf pace (recording_of trace.now) (head_of db)) }
+    ensures leaves { LeavesRun D.files D.faults D.moment D.left_since pace
+        (recording_of trace.now) (head_of db) store.old store.new result }
+    ensures plain { pace ≡ Exact → IfOk result (GrowsPlainly D.files (recording_of trace.now)
+        (head_of db) store.old store.new) }
+    ensures origin { D.origin store.new ≡ D.origin store.old }
+{
+    traces_are_fit(trace);
+    records_are_valid();
+    let Streams { lanes, records } = cut(alloc, trace)?;
+    let copied = Outline::copied(alloc, trace)?;
+    run_streams(rt, alloc, &copied, &records, lanes, db, store, pace, gate)
+}
+
+/// The same for a trace that is not used any more: its lines, 40 bytes each, are given back before the first thread starts.
+pub fn run_owned<R: Threads + Wait + Sync, D: Store, G: Gate + Sync>(
+    rt: &R,
+    alloc: Global,
     trace: Trace,
     db: Database,
     store: &mut D,

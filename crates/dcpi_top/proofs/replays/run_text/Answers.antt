@@ -16,14 +16,14 @@ use Rattle.dcpi_top.proofs.Replayed.{done, ended_short, ended_well, leaves_run, 
 use Rattle.dcpi_top.proofs.replays.run_text.Goals as goal
 
 pub returns-in_err-outcome-clause-gives : goal.returns-in_err-outcome-clause-gives
-returns-in_err-outcome-clause-gives g c input into = refuses (λ text. text.items) Replay input (seen g.D.Store.files g.D.Store.faults c.args.store.now c.replay.new.store) _ _ c.from_residual.ensures.1
-    (λ refusal is. stopped g.D.Store.files g.D.Store.faults g.D.Store.moment g.D.Store.left_since (recording_of c.args.trace) input (head_of c.args.db) c.args.store.now c.replay.new.store into
+returns-in_err-outcome-clause-gives g c input into = refuses (λ text. text.items) Replay input (seen g.D.Store.files g.D.Store.faults c.args.store.now c.replay_owned.new.store) _ _ c.from_residual.ensures.1
+    (λ refusal is. stopped g.D.Store.files g.D.Store.faults g.D.Store.moment g.D.Store.left_since (recording_of c.args.trace) input (head_of c.args.db) c.args.store.now c.replay_owned.new.store into
     c.in_err-outcome.field-0.0 refusal is c.in_err-outcome.ensures.leaves)
 
 pub returns-in_err-outcome-clause-leaves : goal.returns-in_err-outcome-clause-leaves
-returns-in_err-outcome-clause-leaves g c input into = inr (passes _ (λ status. LeavesParts g.D.Store.files g.D.Store.moment g.D.Store.left_since input c.args.store.now c.replay.new.store status) _
+returns-in_err-outcome-clause-leaves g c input into = inr (passes _ (λ status. LeavesParts g.D.Store.files g.D.Store.moment g.D.Store.left_since input c.args.store.now c.replay_owned.new.store status) _
     c.from_residual.ensures.1
-    (λ refusal is. leaves_run g.D.Store.files g.D.Store.faults g.D.Store.moment g.D.Store.left_since (recording_of c.args.trace) input (head_of c.args.db) c.args.store.now c.replay.new.store
+    (λ refusal is. leaves_run g.D.Store.files g.D.Store.faults g.D.Store.moment g.D.Store.left_since (recording_of c.args.trace) input (head_of c.args.db) c.args.store.now c.replay_owned.new.store
     (Some c.in_err-outcome.field-0.0) _ c.files_stand_for_one_database.ensures.heads into.reads into.opened
     (status_is c.in_err-outcome.field-0.0 refusal is) c.in_err-outcome.ensures.leaves))
 
@@ -33,20 +33,20 @@ summary_text-requires g c = let trace = recording_of c.args.trace in let head = 
     (c.records_can_be_stored.ensures.tallied Free trace (head.runs + 1) head.epoch (trace.schedule ++ rounds (enough_rounds trace) trace) c.traces_are_fit.ensures)
 
 pub returns-in_err-text-clause-leaves : goal.returns-in_err-text-clause-leaves
-returns-in_err-text-clause-leaves g c input into = inr (passes (λ refusal. refusal ≡ Memory) (λ status. LeavesParts g.D.Store.files g.D.Store.moment g.D.Store.left_since input c.args.store.now c.replay.new.store status) _
+returns-in_err-text-clause-leaves g c input into = inr (passes (λ refusal. refusal ≡ Memory) (λ status. LeavesParts g.D.Store.files g.D.Store.moment g.D.Store.left_since input c.args.store.now c.replay_owned.new.store status) _
     c.from_residual-in_err-text.ensures.1
-    (λ refusal is. subst (λ r. LeavesParts g.D.Store.files g.D.Store.moment g.D.Store.left_since input c.args.store.now c.replay.new.store (status_of r)) (sym is)
-    (leaves_run g.D.Store.files g.D.Store.faults g.D.Store.moment g.D.Store.left_since (recording_of c.args.trace) input (head_of c.args.db) c.args.store.now c.replay.new.store
+    (λ refusal is. subst (λ r. LeavesParts g.D.Store.files g.D.Store.moment g.D.Store.left_since input c.args.store.now c.replay_owned.new.store (status_of r)) (sym is)
+    (leaves_run g.D.Store.files g.D.Store.faults g.D.Store.moment g.D.Store.left_since (recording_of c.args.trace) input (head_of c.args.db) c.args.store.now c.replay_owned.new.store
     None 6 c.files_stand_for_one_database.ensures.heads into.reads into.opened ended_short c.in_ok-outcome.ensures.leaves)))
 
 pub returns-clause-gives : goal.returns-clause-gives
 returns-clause-gives g c input into = (
-  done g.D.Store.files g.D.Store.faults g.D.Store.moment g.D.Store.left_since (recording_of c.args.trace) input (head_of c.args.db) c.args.store.now c.replay.new.store into
+  done g.D.Store.files g.D.Store.faults g.D.Store.moment g.D.Store.left_since (recording_of c.args.trace) input (head_of c.args.db) c.args.store.now c.replay_owned.new.store into
       c.in_ok-outcome.outcome _ c.in_ok-outcome.ensures.run c.in_ok-outcome.ensures.leaves
       (c.in_ok-text.ensures ∙ ap (summary_of c.in_ok-outcome.outcome.kept) c.deref.ensures.value),
   (into.counted, c.in_ok-outcome.ensures.leaves.store.count),
 )
 
 pub returns-clause-leaves : goal.returns-clause-leaves
-returns-clause-leaves g c input into = inr (leaves_run g.D.Store.files g.D.Store.faults g.D.Store.moment g.D.Store.left_since (recording_of c.args.trace) input (head_of c.args.db) c.args.store.now c.replay.new.store
+returns-clause-leaves g c input into = inr (leaves_run g.D.Store.files g.D.Store.faults g.D.Store.moment g.D.Store.left_since (recording_of c.args.trace) input (head_of c.args.db) c.args.store.now c.replay_owned.new.store
     None 0 c.files_stand_for_one_database.ensures.heads into.reads into.opened ended_well c.in_ok-outcome.ensures.leaves)
