@@ -9,7 +9,7 @@ use Rattle.std.proofs.lemmas.Grind.{get_or_default_zero}
 use Rattle.memchr.specs.Find.{NoneBefore, Nowhere, Passes, is_byte}
 use Rattle.text_num.specs.Lines.{HasNoLineFeed}
 use Rattle.line_reader.specs.Pieces.{IsPiece}
-use Rattle.line_reader.specs.Reading.{TakesPiece}
+use Rattle.line_reader.specs.Reading.{StandsWhole, TakesPiece}
 
 -- what is left after some bytes more
 pub advance : (bytes : List ℕ) (at end k : ℕ) → take (end - (at + k)) (drop (at + k) bytes) ≡ drop k (take (end - at) (drop at bytes))
@@ -75,3 +75,10 @@ module _ (bytes slice : List ℕ) (at end n room : ℕ) (now old new : List ℕ)
     grown,
     rw (is, advance bytes at end n, ← same) (unended n room (take (end - at) (drop at slice)) p),
   )
+
+-- a line that stands in the buffer with its line feed
+pub stands : (bytes slice : List ℕ) (at end n limit : ℕ) (now : List ℕ) → slice ≡ bytes → now ≡ take (end - at) (drop at bytes) → IsPiece true (limit + 1) n (take (end - at) (drop at slice))
+    → StandsWhole limit (take n (take (end - at) (drop at slice))) now
+stands bytes slice at end n limit now same is p =
+    let t = ended n (limit + 1) (take (end - at) (drop at slice)) p in
+    (t.0, omega (arith, t.1), (drop (n + 1) (take (end - at) (drop at slice)), is ∙ ap (λ (l : List ℕ). take (end - at) (drop at l)) (sym same) ∙ t.2))

@@ -27,3 +27,7 @@ pub record HasLineCause {T : Type 0} (before now : ℕ) (result : Result T LineF
 abbrev pub TakesPiece : Bool → ℕ → List ℕ → List ℕ → List ℕ → Type 0
 TakesPiece true room piece old new = HasNoLineFeed piece × (length piece < room) × (old ≡ piece ++ 10 ∷ new)
 TakesPiece false room piece old new = HasNoLineFeed piece × (0 < length piece) × (length piece ≤ room) × (old ≡ piece ++ new)
+
+-- a line of at most so many bytes stands at the front of the bytes, with its line feed
+abbrev pub StandsWhole : ℕ → List ℕ → List ℕ → Type 0
+StandsWhole limit line bytes = HasNoLineFeed line × (length line ≤ limit) × ((left : List ℕ) × (bytes ≡ line ++ 10 ∷ left))

@@ -36,10 +36,10 @@ impl Model for LineReader {
 }
 
 impl LineReader {
-    ghost use Rattle.std.specs.Prelude.{◌≡◌, ◌≢◌, ℕ, ◌+◌, ◌^◌, ◌<◌, ◌≤◌, ◌↔◌, List, [], ◌++◌, IsTrue, OnOk, IfOk};
+    ghost use Rattle.std.specs.Prelude.{◌≡◌, ◌≢◌, ℕ, ◌+◌, ◌^◌, ◌<◌, ◌≤◌, ◌↔◌, List, [], ◌++◌, IsTrue, OnOk, IfOk, IfSome, drop, length};
     ghost use Rattle.std.specs.Io.KnownBytes.{Consumes, IsAtEnd, prepend_known};
     ghost use Rattle.outside_io.specs.Causes.{HasCause};
-    ghost use Rattle.line_reader.specs.Reading.{ReadsLine, HasLineCause, TakesPiece};
+    ghost use Rattle.line_reader.specs.Reading.{ReadsLine, HasLineCause, StandsWhole, TakesPiece};
 
     /// A reader that has read nothing yet.
     pub fn new(alloc: Global) -> Result<LineReader, AllocError>
@@ -82,6 +82,31 @@ impl LineReader {
             }
         }
         unreachable!()
+    }
+
+    /// The next line, of at most `limit` bytes, where it stands in the buffer with its line feed. Nothing is taken yet.
+    pub fn whole_line(&self, limit: usize) -> Option<&[u8]>
+        requires { limit < 2 ^ 32 }
+        ensures { IfSome result (λ line. StandsWhole limit line.now self.now) }
+    {
+        if self.is_empty() {
+            return None;
+        }
+        let pending = &self.bytes[self.at..self.end];
+        let (length, ended) = piece_of(pending, limit + 1);
+        if ended {
+            Some(&pending[..length])
+        } else {
+            None
+        }
+    }
+
+    /// Passes over so many bytes that stand in the buffer.
+    pub fn pass(&mut self, count: usize)
+        requires { count ≤ length self.old }
+        ensures { self.new ≡ drop count self.old }
+    {
+        self.at += count;
     }
 
     fn is_empty(&self) -> bool

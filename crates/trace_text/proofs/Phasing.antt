@@ -1,12 +1,12 @@
 -- The parts of a trace, read one after another.
-use Rattle.std.proofs.Common.{◌≡◌, ℕ, ◌+◌, ◌≤◌, true, List, [], ◌∷◌, ◌++◌, length, refl, ap, sym, subst, ◌∙◌, arith, Option, Some, None}
+use Rattle.std.proofs.Common.{◌≡◌, ℕ, ◌+◌, ◌≤◌, true, List, [], ◌∷◌, ◌++◌, length, suc, drop, refl, ap, sym, subst, ◌∙◌, arith, append_assoc, Option, Some, None}
 use Rattle.std.specs.List.{list_any}
 use Rattle.std.specs.Io.KnownBytes.{Consumes, IsAtEnd, prepend_known}
 use Rattle.std.proofs.lemmas.List.{length-map, append-nil}
 use Rattle.std.proofs.KnownBytes.{prepend_known-nil}
 use Rattle.text_num.specs.Lines.{text_of_lines}
 use Rattle.line_reader.specs.declared.faults.Ending.TheVariants as endings
-use Rattle.line_reader.specs.Reading.{ReadsLine}
+use Rattle.line_reader.specs.Reading.{ReadsLine, StandsWhole}
 use Rattle.trace_model.specs.declared.reasons.TraceWhy.{TraceWhy}
 use Rattle.trace_model.specs.declared.notices.Step.{Step}
 use Rattle.trace_model.specs.Said.{Said, Ended, is_end, is_step}
@@ -34,6 +34,21 @@ use Rattle.trace_text.proofs.Walking.{went_line, went_on, stops_on, stops_finish
 pub body_stepped : (taken : Taken) (left rest : Option (List ℕ)) (old new : Body) (line line' : List ℕ) → line' ≡ line → ReadsLine 400 endings.Finished line left rest → TakesLine taken old line' new → StepsBody taken left rest old new
 body_stepped kinds.Line left rest old new line line' e r t = (t.0, t.1, went_line left rest line (said_in_body old) (said_in_body new) t.2.0 r (ap (verdict (said_in_body old)) (sym e) ∙ t.2.1) t.2.2)
 body_stepped kinds.End left rest old new line line' e r t = (t.0, went_line left rest line (said_in_body old) (said_in_body old ++ Ended ∷ []) t.1.0 r (ap (verdict (said_in_body old)) (sym e) ∙ t.1.1) t.1.2)
+
+-- a line that stood in the buffer was passed over
+behind : (line more : List ℕ) → drop (length line + 1) (line ++ 10 ∷ more) ≡ more
+behind [] more = refl
+behind (c ∷ line) more = ap (λ (k : ℕ). drop k (c ∷ line ++ 10 ∷ more)) {x = length (c ∷ line) + 1} {y = suc (length line + 1)} (omega arith) ∙ behind line more
+
+passed_over : (reader line more : List ℕ) (left : Option (List ℕ)) → reader ≡ line ++ 10 ∷ more → Consumes (prepend_known reader left) (prepend_known more left) (line ++ 10 ∷ [])
+passed_over reader line more None e = tt
+passed_over reader line more (Some rest) e = ap (λ (l : List ℕ). l ++ rest) e ∙ append_assoc line (10 ∷ more) rest ∙ sym (append_assoc line (10 ∷ []) (more ++ rest))
+
+pub stood : (reader line passed : List ℕ) (left : Option (List ℕ)) → StandsWhole 400 line reader → passed ≡ drop (length line + 1) reader
+    → ReadsLine 400 endings.Finished line (prepend_known reader left) (prepend_known passed left)
+stood reader line passed left w e =
+    let more : passed ≡ w.2.0 = e ∙ ap (drop (length line + 1)) w.2.1 ∙ behind line w.2.0 in
+    (w.0, w.1, subst (λ (l : List ℕ). Consumes (prepend_known reader left) (prepend_known l left) (line ++ 10 ∷ [])) (sym more) (passed_over reader line w.2.0 left w.2.1))
 
 -- a line of the schedule that was taken
 pub schedule_stepped : (left rest : Option (List ℕ)) (b : Body) (old new : List Step) (line line' : List ℕ) → line' ≡ line → ReadsLine 400 endings.Finished line left rest

@@ -40,3 +40,9 @@ StepsBody kinds.End left rest old new = (new ≡ old) × Went left rest (said_in
 abbrev pub StepsSchedule : Bool → Option (List ℕ) → Option (List ℕ) → Body → List Step → List Step → Type 0
 StepsSchedule true left rest body old new = AreSteps body new × Went left rest (said_with_steps body old) (said_with_steps body new) 1
 StepsSchedule false left rest body old new = (new ≡ old) × Went left rest (said_with_steps body old) (said_with_steps body old) 0 × IsAtEnd rest
+
+-- the next line, a good sample's, was taken where it stood in the buffer, whatever the source still has; or nothing was taken
+abbrev pub TakesWhole : Bool → Input → Input → Body → Body → Type 0
+TakesWhole true old new before after =
+    ((left : Option (List ℕ)) → StepsBody kinds.Line (unread old left) (unread new left) before after) × (new.number ≡ old.number + 1)
+TakesWhole false old new before after = (new ≡ old) × (after ≡ before)

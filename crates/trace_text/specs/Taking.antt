@@ -1,5 +1,5 @@
 -- What taking a line of the body changes.
-use Rattle.std.specs.Prelude.{◌≡◌, ℕ, ◌+◌, ◌<◌, ◌&&◌, true, false, cond, List, [], ◌∷◌, ◌++◌, length}
+use Rattle.std.specs.Prelude.{◌≡◌, ℕ, ◌+◌, ◌<◌, ◌&&◌, Bool, true, false, cond, List, [], ◌∷◌, ◌++◌, length}
 use Rattle.std.specs.declared.result.Result.{Result}
 use Rattle.std.specs.declared.result.Result.TheVariants.{Ok, Err}
 use Rattle.std.specs.List.{fold}
@@ -26,6 +26,11 @@ use Rattle.trace_text.specs.Progress.{SaysNext}
 abbrev pub TakesLine : Taken → Body → List ℕ → Body → Type 0
 TakesLine kinds.Line old line new = IsSound new × (new.sizes ≡ old.sizes) × SaysNext (said_in_body old) line (said_in_body new)
 TakesLine kinds.End old line new = (new ≡ old) × SaysNext (said_in_body old) line (said_in_body old ++ Ended ∷ [])
+
+-- a line that is a good sample's was taken, or nothing
+abbrev pub TakesSample : Bool → Body → List ℕ → Body → Type 0
+TakesSample true old line new = TakesLine kinds.Line old line new
+TakesSample false old line new = new ≡ old
 
 abbrev pub Adds : Taken → Body → Said ℕ → Body → Type 0
 Adds kinds.Line old said new = IsSound new × (new.sizes ≡ old.sizes) × (said_in_body new ≡ said_in_body old ++ said ∷ [])

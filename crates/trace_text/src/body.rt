@@ -68,7 +68,7 @@ impl Body {
     ghost use Rattle.trace_text.specs.Sampling.{IsGoodSample};
     ghost use Rattle.trace_text.specs.State.{AreSteps, HasItsImages, IsSound, said_in_body, said_with_steps};
     ghost use Rattle.trace_text.specs.Taking.{Adds, IsIndexed, IsJudged, Names, NamesImage, PushesRecord};
-    ghost use Rattle.trace_text.specs.Taking.{PushesSample, TakesLine};
+    ghost use Rattle.trace_text.specs.Taking.{PushesSample, TakesLine, TakesSample};
     ghost use Rattle.trace_text.specs.Faults.{part_fault, record_fault, sample_fault, scan_fault};
 
     /// The body that stands behind a header, before its first line.
@@ -96,12 +96,24 @@ impl Body {
         ensures taken { IfOk result (λ taken. TakesLine taken self.old line.now self.new) }
         ensures refused { IfErr result (IsRefusal (verdict (said_in_body self.old) line.now)) }
     {
+        if self.take_sample(line)? {
+            Ok(Taken::Line)
+        } else {
+            self.take_by_fields(alloc, line)
+        }
+    }
+
+    /// Takes a line that is a good sample's, and answers whether it was one; another line changes nothing.
+    pub fn take_sample(&mut self, line: &[u8]) -> Result<bool, AllocError>
+        requires { IsSound self.old }
+        ensures { IfOk result (λ took. TakesSample took self.old line.now self.new) }
+    {
         match self.plain_sample(line) {
             Some(sample) => {
                 self.push_sample(&sample)?;
-                Ok(Taken::Line)
+                Ok(true)
             }
-            None => self.take_by_fields(alloc, line),
+            None => Ok(false),
         }
     }
 

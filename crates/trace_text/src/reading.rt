@@ -7,7 +7,7 @@ ghost use Rattle.trace_model.specs.Recording.{Reads};
 ghost use Rattle.trace_model.specs.Traces.{recording_of};
 ghost use Rattle.trace_text.specs.Judging.{size_shown};
 ghost use Rattle.trace_text.specs.State.{AreSteps, IsSound, Passes, said_in_body, said_with_steps};
-ghost use Rattle.trace_text.specs.Phases.{ReadsBody, ReadsHeader, ReadsSchedule, StepsBody, StepsSchedule, unread};
+ghost use Rattle.trace_text.specs.Phases.{ReadsBody, ReadsHeader, ReadsSchedule, StepsBody, StepsSchedule, TakesWhole, unread};
 ghost use Rattle.trace_text.specs.Refusing.{Halts, HaltsWithin, IsFirstBadOf, TellsFaults};
 
 use crate::body::{Body, Taken};
@@ -18,9 +18,9 @@ use crate::schedule::take_step;
 use line_reader::Ending;
 use outside_io::Source;
 use sample_key::MOST_SAMPLES;
-use std::alloc::Global;
+use std::alloc::{AllocError, Global};
 use trace_laws::MOST_TRACE_LINES;
-use trace_model::{MOST_RECORDS, MOST_STEPS, Step, Trace, TraceWhy};
+use trace_model::{MOST_LINE_BYTES, MOST_RECORDS, MOST_STEPS, Step, Trace, TraceWhy};
 
 /// The most lines of a body: samples, records, and the end.
 const MOST_BODY_LINES: u64 = MOST_SAMPLES + MOST_RECORDS as u64 + 1;
@@ -91,6 +91,48 @@ fn read_body<S: Source>(
 }
 
 fn step_body<S: Source>(
+    alloc: Global,
+    input: &mut Input,
+    source: &mut S,
+    body: &mut Body,
+) -> Result<Taken, TraceRefusal>
+    requires number { input.old.number < 2 ^ 62 }
+    requires sound { IsSound body.old }
+    ensures taken { IfOk result (λ taken. StepsBody taken (unread input.old (S.left source.old))
+        (unread input.new (S.left source.new)) body.old body.new) }
+    ensures number { OnOk result (input.new.number ≡ input.old.number + 1) }
+    ensures stops { Halts (unread input.old (S.left source.old))
+        (said_in_body body.old) input.old.number result }
+    ensures within { HaltsWithin (input.old.number + 1) result }
+    ensures faults { TellsFaults (S.faults source.old) (S.faults source.new) result }
+{
+    if take_whole_sample(input, body)? {
+        Ok(Taken::Line)
+    } else {
+        step_copied(alloc, input, source, body)
+    }
+}
+
+// Takes the next line where it stands in the buffer and is a good sample's, and answers whether it did.
+fn take_whole_sample(input: &mut Input, body: &mut Body) -> Result<bool, AllocError>
+    requires number { input.old.number < 2 ^ 62 }
+    requires sound { IsSound body.old }
+    ensures { IfOk result (λ took. TakesWhole took input.old input.new body.old body.new) }
+{
+    let Some(line) = input.reader.whole_line(MOST_LINE_BYTES) else {
+        return Ok(false);
+    };
+    let length = line.len();
+    let took = body.take_sample(line)?;
+    if took {
+        input.reader.pass(length + 1);
+        input.number += 1;
+    }
+    Ok(took)
+}
+
+// The same as `step_body`, with the line copied out of the buffer first.
+fn step_copied<S: Source>(
     alloc: Global,
     input: &mut Input,
     source: &mut S,

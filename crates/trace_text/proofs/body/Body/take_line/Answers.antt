@@ -1,10 +1,11 @@
-use Rattle.trace_text.specs.Forms.{sample_values}
-use Rattle.trace_text.proofs.Adding.{sample_added}
+use Rattle.std.specs.Prelude.{IfErr}
+use Rattle.std.proofs.Common.{subst}
+use Rattle.trace_model.specs.Grammar.{verdict}
+use Rattle.trace_text.specs.declared.body.Body.{Body}
+use Rattle.trace_text.specs.Progress.{IsRefusal}
+use Rattle.trace_text.specs.State.{said_in_body}
 use Rattle.trace_text.proofs.body.Body.take_line.Goals as goal
 
-pub returns-in_ok-push_sample-in-Some-clause-taken : goal.returns-in_ok-push_sample-in-Some-clause-taken
-returns-in_ok-push_sample-in-Some-clause-taken c =
-    let s = c.in-Some.sample in
-    let good = c.in-Some.ensures in
-    let added = sample_added c.args.self.now c.push_sample.new.self s.cpu s.pid s.pc s.event c.requires c.in_ok-push_sample-in-Some.ensures good.1 in
-    (added.0, added.1, (sample_values s, good.0, added.2))
+pub returns-else-branch-clause-refused : goal.returns-else-branch-clause-refused
+returns-else-branch-clause-refused c = subst (λ (b : Body). IfErr c.take_by_fields.result (IsRefusal (verdict (said_in_body b) c.args.line.now)))
+    (rw c.if-branch.false at c.in_ok-take_sample.ensures) c.take_by_fields.ensures.refused
