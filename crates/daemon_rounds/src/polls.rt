@@ -61,7 +61,7 @@ fn poll_side<T: DaemonSide, G: Gate>(
     let first = poll_cell(alloc, gate, daemon, cpu, 0, sides);
     let second = poll_cell(alloc, gate, daemon, cpu, 1, sides);
     let third = poll_cell(alloc, gate, daemon, cpu, LAST_CELL, sides);
-    first || second || third
+    first | second | third
 }
 
 // Polls a cell of a processor. Whether a batch was drained, which the gate is told.

@@ -1,12 +1,12 @@
 -- One side after another.
-use Rattle.std.proofs.Common.{arith, refl, ◌∙◌, add-one}
+use Rattle.std.proofs.Common.{arith, refl, rules, ◌∙◌, add-one}
 use Rattle.std.proofs.lemmas.List.{length-map}
 use Rattle.daemon_rounds.proofs.Polling.{going_on, polls_none, polls_on, view_of}
 use Rattle.daemon_rounds.proofs.PollingSides.{all_ready, idle_next, none_ready, ready_more}
 use Rattle.daemon_rounds.proofs.polls.poll_all.Goals as goal
 
 pub loop-cpu-init : goal.loop-cpu-init
-loop-cpu-init g c = record { polls = polls_none _ _; ready = none_ready _ c.requires.idle; fixed = refl }
+loop-cpu-init g c = record { polls = polls_none _ _; ready = search (rules, none_ready); fixed = refl }
 
 pub poll_side-drained-requires-clause-going : goal.poll_side-drained-requires-clause-going
 poll_side-drained-requires-clause-going g c = going_on _ _ _ _ c.requires.going c.loop-cpu.invariant.polls
