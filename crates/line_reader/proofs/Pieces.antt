@@ -1,5 +1,5 @@
 -- Pieces of a line, taken from the front of the bytes that were read.
-use Rattle.std.proofs.Common.{◌≡◌, ◌≢◌, ℕ, suc, ◌+◌, ◌-◌, ◌<◌, true, false, List, ◌∷◌, ◌++◌, length, get_or, take, drop, ap, sym, ◌∙◌, arith, min}
+use Rattle.std.proofs.Common.{◌≡◌, ◌≢◌, ℕ, zero, suc, ◌+◌, ◌-◌, ◌<◌, true, false, List, [], ◌∷◌, ◌++◌, length, length-append, get_or, take, drop, ap, refl, subst, sym, ◌∙◌, arith, min}
 use Rattle.std.proofs.lemmas.List.{take-append-drop, drop-drop, length-take, get_or-take}
 use Rattle.std.proofs.lemmas.List.Elements.{recursion_from_All}
 use Rattle.std.proofs.lemmas.Slice.{between_is}
@@ -9,7 +9,7 @@ use Rattle.std.proofs.lemmas.Grind.{get_or_default_zero}
 use Rattle.memchr.specs.Find.{NoneBefore, Nowhere, Passes, is_byte}
 use Rattle.text_num.specs.Lines.{HasNoLineFeed}
 use Rattle.line_reader.specs.Pieces.{IsPiece}
-use Rattle.line_reader.specs.Reading.{StandsWhole, TakesPiece}
+use Rattle.line_reader.specs.Reading.{NoneStandsWhole, StandsWhole, TakesPiece}
 
 -- what is left after some bytes more
 pub advance : (bytes : List ℕ) (at end k : ℕ) → take (end - (at + k)) (drop (at + k) bytes) ≡ drop k (take (end - at) (drop at bytes))
@@ -26,7 +26,7 @@ ended n room bytes p = (
 
 -- the bytes are the piece and what follows
 pub unended : (n room : ℕ) (bytes : List ℕ) → IsPiece false room n bytes → TakesPiece false room (take n bytes) bytes (drop n bytes)
-unended n room bytes p = (p.0, omega (arith, length-take n bytes, p.1, p.3), omega (arith, length-take n bytes, p.2), sym (take-append-drop n bytes))
+unended n room bytes p = (p.0, omega (arith, length-take n bytes, p.1, p.2), omega (arith, length-take n bytes, p.2), sym (take-append-drop n bytes))
 
 -- no line feed stands before the first one
 pub none_before : (n : ℕ) (bytes : List ℕ) → ((k : ℕ) → k < n → get_or bytes k 0 ≢ 10) → HasNoLineFeed (take n bytes)
@@ -55,7 +55,6 @@ module _ (room : ℕ) (bytes : List ℕ) where
     none_before (length window) bytes (λ k below e. h k (omega arith) below (eq-eqb (get_or window k 0) 10 (at_window k below ∙ e))),
     omega (arith, size),
     omega (arith, size),
-    omega (arith, size),
   )
 
 -- the reader after a piece
@@ -82,3 +81,23 @@ pub stands : (bytes slice : List ℕ) (at end n limit : ℕ) (now : List ℕ) �
 stands bytes slice at end n limit now same is p =
     let t = ended n (limit + 1) (take (end - at) (drop at slice)) p in
     (t.0, omega (arith, t.1), (drop (n + 1) (take (end - at) (drop at slice)), is ∙ ap (λ (l : List ℕ). take (end - at) (drop at l)) (sym same) ∙ t.2))
+
+-- a line with its line feed is no front without one
+feed_in_front : (n : ℕ) (line left : List ℕ) → length line < n → HasNoLineFeed (take n (line ++ 10 ∷ left)) → ⊥
+feed_in_front zero line left few none = omega (arith, few)
+feed_in_front (suc n) [] left few none = none.0 refl
+feed_in_front (suc n) (b ∷ line) left few none = feed_in_front n line left (omega (arith, few)) none.1
+
+-- where the next piece has no line feed behind it, no line stands in the buffer with its line feed
+pub none_stands : (bytes slice : List ℕ) (at end n limit : ℕ) (now : List ℕ) → slice ≡ bytes → now ≡ take (end - at) (drop at bytes) → IsPiece false (limit + 1) n (take (end - at) (drop at slice))
+    → NoneStandsWhole limit now
+none_stands bytes slice at end n limit now same is p line (none, short, (left, whole)) =
+    let front : take (end - at) (drop at slice) ≡ line ++ 10 ∷ left = ap (λ (l : List ℕ). take (end - at) (drop at l)) same ∙ sym is ∙ whole in
+    feed_in_front n line left
+    (omega (arith, short, p.2, ap (λ (l : List ℕ). length l) front, length-append line (10 ∷ left)))
+    (subst (λ (l : List ℕ). HasNoLineFeed (take n l)) front p.0)
+
+-- nor does one in no bytes
+pub none_in_none : (limit : ℕ) (now : List ℕ) → now ≡ [] → NoneStandsWhole limit now
+none_in_none limit now empty line (none, short, (left, whole)) =
+    omega (arith, ap (λ (l : List ℕ). length l) (sym empty ∙ whole), length-append line (10 ∷ left))

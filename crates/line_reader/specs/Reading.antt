@@ -31,3 +31,7 @@ TakesPiece false room piece old new = HasNoLineFeed piece × (0 < length piece) 
 -- a line of at most so many bytes stands at the front of the bytes, with its line feed
 abbrev pub StandsWhole : ℕ → List ℕ → List ℕ → Type 0
 StandsWhole limit line bytes = HasNoLineFeed line × (length line ≤ limit) × ((left : List ℕ) × (bytes ≡ line ++ 10 ∷ left))
+
+-- no line of at most so many bytes stands at the front of the bytes with its line feed
+abbrev pub NoneStandsWhole : ℕ → List ℕ → Type 0
+NoneStandsWhole limit bytes = (line : List ℕ) → StandsWhole limit line bytes → ⊥

@@ -36,10 +36,10 @@ impl Model for LineReader {
 }
 
 impl LineReader {
-    ghost use Rattle.std.specs.Prelude.{◌≡◌, ◌≢◌, ℕ, ◌+◌, ◌^◌, ◌<◌, ◌≤◌, ◌↔◌, List, [], ◌++◌, IsTrue, OnOk, IfOk, IfSome, drop, length};
+    ghost use Rattle.std.specs.Prelude.{◌≡◌, ◌≢◌, ℕ, ◌+◌, ◌^◌, ◌<◌, ◌≤◌, ◌↔◌, List, [], ◌++◌, IsTrue, None, OnOk, IfOk, IfSome, drop, length};
     ghost use Rattle.std.specs.Io.KnownBytes.{Consumes, IsAtEnd, prepend_known};
     ghost use Rattle.outside_io.specs.Causes.{HasCause};
-    ghost use Rattle.line_reader.specs.Reading.{ReadsLine, HasLineCause, StandsWhole, TakesPiece};
+    ghost use Rattle.line_reader.specs.Reading.{ReadsLine, HasLineCause, NoneStandsWhole, StandsWhole, TakesPiece};
 
     /// A reader that has read nothing yet.
     pub fn new(alloc: Global) -> Result<LineReader, AllocError>
@@ -84,10 +84,12 @@ impl LineReader {
         unreachable!()
     }
 
-    /// The next line, of at most `limit` bytes, where it stands in the buffer with its line feed. Nothing is taken yet.
+    /// The next line, of at most `limit` bytes, where it stands in the buffer with its line feed; none exactly where none does.
+    /// Nothing is taken yet.
     pub fn whole_line(&self, limit: usize) -> Option<&[u8]>
         requires { limit < 2 ^ 32 }
-        ensures { IfSome result (λ line. StandsWhole limit line.now self.now) }
+        ensures some { IfSome result (λ line. StandsWhole limit line.now self.now) }
+        ensures none { result ≡ None → NoneStandsWhole limit self.now }
     {
         if self.is_empty() {
             return None;
