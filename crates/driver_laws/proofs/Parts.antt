@@ -1,6 +1,6 @@
-use Rattle.std.proofs.Common.{◌≡◌, append_assoc, ℕ, ◌+◌, ◌*◌, ◌/◌, ◌%◌, ◌<◌, ◌≤◌, List, [], ◌∷◌, ◌++◌, length, take, refl, sym, ◌∙◌, ap, subst, arith, inl, inr, true, false, Some, None, Option, length-append}
+use Rattle.std.proofs.Common.{◌≡◌, append_assoc, ℕ, ◌+◌, ◌*◌, ◌/◌, ◌%◌, ◌<◌, ◌≤◌, List, [], ◌∷◌, ◌++◌, length, take, refl, sym, ◌∙◌, ap, subst, arith, inl, inr, Bool, true, false, cond, Some, None, Option, eqb, length-append}
 use Rattle.std.specs.Prelude.{is_some, IsSomeAnd, slice_get, unwrap_or}
-use Rattle.std.proofs.lemmas.Bool.{cases_lt}
+use Rattle.std.proofs.lemmas.Bool.{cases_lt, cond_both}
 use Rattle.std.proofs.lemmas.List.{take-append-le}
 use Rattle.sample_key.specs.Bags.{times, counted, lost_below}
 use Rattle.sample_key.specs.Counted.{Counted}
@@ -19,7 +19,7 @@ use Rattle.driver_model.specs.Invariant.{IsConserved, IsWholeFlush, IsBounded, I
 use Rattle.driver_model.specs.declared.answers.Added.{Added}
 use Rattle.driver_model.specs.declared.answers.Added.TheVariants.{Folded, Placed, Evicted, Spilt}
 use Rattle.driver_model.specs.declared.plans.Stats.{Stats}
-use Rattle.driver_laws.proofs.Lists.{append-nil, all_map, all_last, got_push, next_push, got_last, past_end, snoc_of}
+use Rattle.driver_laws.proofs.Lists.{append-nil, all_map, all_last, got_push, next_push, got_last, past_end, snoc_of, by_number}
 use Rattle.driver_laws.proofs.Weights.{upto_le, below_le, below_push}
 use Rattle.driver_laws.proofs.Adds.{out_weight, placed_by}
 
@@ -124,24 +124,41 @@ pub out_some : (o : Option Counted) (d : Counted) (j : Key) → is_some o ≡ tr
 out_some None d j h = cc
 out_some (Some e) d j h = (refl, refl)
 
--- a flush is whole also after more was handed
-pub flush_hand0 : (ss : List Marked) (first second : List Sent) (ls : List Loss) (b : Sent) (done : List Sent) (g : Sent)
-    → IsWholeFlush ss first second ls done g → IsWholeFlush ss (first ++ b ∷ []) second ls done g
-flush_hand0 ss first second ls b done g f = record {
-  sent0 = omega (arith, f.sent0, length-append first (b ∷ []));
-  sent1 = f.sent1;
-  upto = f.upto;
-  whole = λ k. rw (take-append-le g.note.sent0 first (b ∷ []) f.sent0) (f.whole k);
-}
+-- the batches of a buffer, with this one where it was handed from it
+abbrev pub handed_if : Bool → List Sent → Sent → List Sent
+handed_if b bs x = cond b (bs ++ x ∷ []) bs
 
-pub flush_hand1 : (ss : List Marked) (first second : List Sent) (ls : List Loss) (b : Sent) (done : List Sent) (g : Sent)
-    → IsWholeFlush ss first second ls done g → IsWholeFlush ss first (second ++ b ∷ []) ls done g
-flush_hand1 ss first second ls b done g f = record {
-  sent0 = f.sent0;
-  sent1 = omega (arith, f.sent1, length-append second (b ∷ []));
-  upto = f.upto;
-  whole = λ k. rw (take-append-le g.note.sent1 second (b ∷ []) f.sent1) (f.whole k);
-}
+-- what holds of them either way
+pub if_handed : (P : List Sent → Type 0) (b : Bool) (bs : List Sent) (x : Sent) → P bs → (b ≡ true → P (bs ++ x ∷ [])) → P (handed_if b bs x)
+if_handed P b bs x h f = cond_both b (bs ++ x ∷ []) bs P f (λ e. h)
+
+-- what is counted over both buffers, after the one of this number was handed
+pub sum_handed : (n : ℕ) → n ≤ 1 → (first second : List Sent) (x : Sent) (f : List Sent → ℕ) (g : ℕ) → ((bs : List Sent) → f (bs ++ x ∷ []) ≡ f bs + g)
+    → f (handed_if (eqb n 0) first x) + f (handed_if (eqb n 1) second x) ≡ f first + f second + g
+sum_handed n low first second x f g h =
+    by_number (λ (m : ℕ). f (handed_if (eqb m 0) first x) + f (handed_if (eqb m 1) second x) ≡ f first + f second + g) n low (omega (arith, h first)) (omega (arith, h second))
+
+-- a buffer's hands follow its batches
+pub hands_handed : (b : Bool) (hands : ℕ) (bs : List Sent) (x : Sent) → hands ≡ length bs → cond b (hands + 1) hands ≡ length (handed_if b bs x)
+hands_handed true hands bs x h = omega (arith, h, length-append bs (x ∷ []))
+hands_handed false hands bs x h = h
+
+-- the first batches of a buffer are still the first
+first_handed : (b : Bool) (bs : List Sent) (x : Sent) (n : ℕ) → n ≤ length bs → (n ≤ length (handed_if b bs x)) × (take n (handed_if b bs x) ≡ take n bs)
+first_handed true bs x n h = (omega (arith, h, length-append bs (x ∷ [])), take-append-le n bs (x ∷ []) h)
+first_handed false bs x n h = (h, refl)
+
+-- a flush is whole also after more was handed
+pub flush_hand : (ss : List Marked) (first second : List Sent) (a b : Bool) (ls : List Loss) (x : Sent) (done : List Sent) (g : Sent)
+    → IsWholeFlush ss first second ls done g → IsWholeFlush ss (handed_if a first x) (handed_if b second x) ls done g
+flush_hand ss first second a b ls x done g f =
+    let first_still = first_handed a first x g.note.sent0 f.sent0 in let second_still = first_handed b second x g.note.sent1 f.sent1 in
+    record {
+      sent0 = first_still.0;
+      sent1 = second_still.0;
+      upto = f.upto;
+      whole = λ k. rw (first_still.1, second_still.1) (f.whole k);
+    }
 
 -- and after a loss beyond it
 pub flush_lost : (ss : List Marked) (first second : List Sent) (ls : List Loss) (l : Loss) (done : List Sent) (g : Sent)
@@ -154,9 +171,9 @@ flush_lost ss first second ls l done g h f = record {
 }
 
 -- a loss is explained also after more was handed
-pub out_push : (handed : List Sent) (b : Sent) (index word : ℕ) → index < b.note.upto → WasOut handed index word → WasOut (handed ++ b ∷ []) index word
-out_push handed b index word l h =
-    (h.0, got_push (λ c. (c.note.number ≡ (word + 1) / 2) × (c.note.upto ≤ index)) handed b (word / 2) h.1, next_push (λ a. index < a.note.upto) handed b (word / 2 + 1) h.2 l)
+pub out_hand : (b : Bool) (handed : List Sent) (x : Sent) (index word : ℕ) → index < x.note.upto → WasOut handed index word → WasOut (handed_if b handed x) index word
+out_hand b handed x index word l h = if_handed (λ bs. WasOut bs index word) b handed x h
+    (λ e. (h.0, got_push (λ c. (c.note.number ≡ (word + 1) / 2) × (c.note.upto ≤ index)) handed x (word / 2) h.1, next_push (λ a. index < a.note.upto) handed x (word / 2 + 1) h.2 l))
 
 -- a buffer was out, where its word says so when a sample is lost
 pub out_now : (handed : List Sent) (index word : ℕ) → word % 2 ≡ 1 → word + 1 ≡ 2 * length handed → InOrder handed → AllOf (λ b. b.note.upto ≤ index) handed

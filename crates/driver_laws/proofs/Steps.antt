@@ -1,4 +1,4 @@
-use Rattle.std.proofs.Common.{◌≡◌, ℕ, ◌+◌, ◌*◌, ◌/◌, ◌%◌, ◌<◌, ◌≤◌, List, [], ◌∷◌, ◌++◌, length, drop, refl, sym, ◌∙◌, ap, subst, arith, inl, inr, true, false, not, cond, Some, None, Option, leb, ltb, eqb, ◌&&◌, ◌||◌, leb-true, leb-false, ltb-true, ltb-false, eqb-true}
+use Rattle.std.proofs.Common.{◌≡◌, ℕ, ◌+◌, ◌*◌, ◌/◌, ◌%◌, ◌<◌, ◌≤◌, List, [], ◌∷◌, ◌++◌, length, drop, refl, sym, ap, subst, arith, inl, inr, true, false, not, Some, None, Option, leb, ltb, eqb, ◌&&◌, ◌||◌, leb-true, leb-false, ltb-true, ltb-false, eqb-true}
 use Rattle.std.specs.Prelude.{is_some, IfSome}
 use Rattle.std.proofs.lemmas.Bool.{cond_both, and_parts}
 use Rattle.sample_key.specs.Counted.{Counted}
@@ -10,14 +10,14 @@ use Rattle.sample_key.specs.declared.losses.Pace.{Pace}
 use Rattle.sample_key.specs.declared.losses.Pace.TheVariants.{Free, Exact}
 use Rattle.driver_model.specs.Table.{Table, entries_in, empty_table}
 use Rattle.driver_model.specs.Sides.{Side, is_even, side_hear, side_look_table, side_look_buffer}
-use Rattle.driver_model.specs.Driver.{buffer_batch, Two, Words, ends_with, regain, hand_active, answer_with, other, word_at, look_other, find_buffer, write, write_sample, take_sample, next_sample, after_regain, turn_of, Setup, Driver, World, Turned, take_next, entry_to_write, needs_write, activate, pair_handed, buffer_header, table_header, hand_buffer, hand_table, lose, may_answer, answers_now}
+use Rattle.driver_model.specs.Driver.{buffer_batch, Two, Words, ends_with, regain, hand_active, answer_with, other, word_at, look_other, find_buffer, push, write, write_sample, take_sample, next_sample, after_regain, turn_of, Setup, Driver, World, Turned, take_next, entry_to_write, needs_write, activate, pair_handed, table_header, hand_buffer, hand_table, lose, may_answer, answers_now}
 use Rattle.driver_model.specs.Invariant.{IsSetup, FullOrCut, CutBy, DriverInvariant}
 use Rattle.driver_model.specs.declared.answers.Turn.TheVariants.{Took, Held, Done}
 use Rattle.driver_laws.proofs.Lists.{by_number, odd_of, some_push, some_last}
 use Rattle.driver_laws.proofs.Looks.{by_hand, by_look, look_ends}
 use Rattle.driver_laws.proofs.Loose.{Loose, loose_of, strict_of}
 use Rattle.driver_laws.proofs.Changes.{kept_holds, kept_hear, kept_table_back, kept_table_out, kept_counted, kept_out0, kept_out1, kept_back0, kept_back1}
-use Rattle.driver_laws.proofs.Pushes.{kept_pushed, kept_direct, kept_hand0, kept_hand1}
+use Rattle.driver_laws.proofs.Pushes.{kept_pushed, kept_hand}
 use Rattle.driver_laws.proofs.Ends.{kept_lost, closed_by}
 use Rattle.driver_laws.specs.Turns.{AreFairWords, KeepsAfter}
 
@@ -61,20 +61,15 @@ answer_active u d v w t None setup size active held here odd above may i =
     (λ cell c. cut_later u (record { note = table_header u d w; entries = entries_in t }) v.third.handed cell c) i.active i)
 answer_active u d v w t (Some es) setup size active held here odd above may i =
     let has : (1 ≤ length es) × (length es < v.buffer) = subst (λ (z : Option (List Counted)). IfSome z (λ es. (1 ≤ length es) × (length es < v.buffer))) active i.active in
-    by_number (λ (b : ℕ). d.pair.active_number ≡ b → DriverInvariant u (hand_table u (hand_buffer u d v b es).driver (hand_buffer u d v b es).side w t).driver (hand_table u (hand_buffer u d v b es).driver (hand_buffer u d v b es).side w t).side)
-    d.pair.active_number i.number
-    (λ number.
-    let d1 = (hand_buffer u d v 0 es).driver in let v1 = (hand_buffer u d v 0 es).side in
+    let n : ℕ = d.pair.active_number in
+    let b : Sent = buffer_batch u d.at n (pair_handed d.pair n) es in
+    let d1 = (hand_buffer u d v n es).driver in let v1 = (hand_buffer u d v n es).side in
     let x : Sent = record { note = table_header u d1 w; entries = entries_in t } in
-    closed_by v.buffer u d1 v1 w t setup refl held here odd above (may_same u d d1 w u.pace refl may)
-    (kept_hand0 v.third.handed (v.third.handed ++ x ∷ []) 1 v.buffer u d v es (λ cell c. cut_later u x v.third.handed cell c) active number has.0 (omega (arith, size, has.1))
-    (inr (some_last (CutBy 0 (record { note = buffer_header u d.at 0 (pair_handed d.pair 0); entries = es })) v.third.handed x (refl, refl))) i))
-    (λ number.
-    let d1 = (hand_buffer u d v 1 es).driver in let v1 = (hand_buffer u d v 1 es).side in
-    let x : Sent = record { note = table_header u d1 w; entries = entries_in t } in
-    closed_by v.buffer u d1 v1 w t setup refl held here odd above (may_same u d d1 w u.pace refl may)
-    (kept_hand1 v.third.handed (v.third.handed ++ x ∷ []) 1 v.buffer u d v es (λ cell c. cut_later u x v.third.handed cell c) active number has.0 (omega (arith, size, has.1))
-    (inr (some_last (CutBy 1 (record { note = buffer_header u d.at 1 (pair_handed d.pair 1); entries = es })) v.third.handed x (refl, refl))) i)) refl
+    let kept = kept_hand v.third.handed (v.third.handed ++ x ∷ []) 1 v.buffer u d v es (λ cell c. cut_later u x v.third.handed cell c) active
+    (has.0, omega (arith, size, has.1), inr (some_last (CutBy n b) v.third.handed x (refl, refl))) i in
+    closed_by v.buffer u d1 v1 w t setup (by_number (λ (m : ℕ). (pair_handed d.pair m).active ≡ None) n i.number refl refl) held
+    (by_hand (λ (z : Side). w ≡ z.heard) v n b here here) odd above (may_same u d d1 w u.pace refl may)
+    (by_hand (λ (z : Side). Loose (z.third.handed ++ x ∷ []) 1 v.buffer u d1 v1) v n b kept kept)
 
 -- a flush is answered
 answer_kept : (u : Setup) (d : Driver) (v : Side) (w : ℕ) (o : Option Table) → IsSetup u → u.size ≡ v.buffer → d.table ≡ o → w ≡ v.heard → answers_now u d w ≡ true
@@ -86,47 +81,29 @@ answer_kept u d v w (Some t) setup size held here answers i =
     let r = and_parts (eqb (w % 2) 1) (ltb d.answered w) q.0 in
     answer_active u d v w t d.pair.active setup size refl held here (eqb-true (w % 2) 1 r.0) (ltb-true d.answered w r.1) p.1 i
 
--- the entry that was pushed did not fill the buffer, or it did
-push_kept : (u : Setup) (d : Driver) (v : Side) (k : Key) (full : List Counted) (o : Option Table) → u.size ≡ v.buffer → (take_next d k o).pair ≡ d.pair
-    → Loose v.third.handed 1 (v.buffer + 1) u (record (take_next d k o) { pair = record d.pair { active = Some full } }) v
-    → (b : ℕ) → b ≡ d.pair.active_number
-    → DriverInvariant u (cond (leb u.size (length full)) (hand_buffer u (record (take_next d k o) { pair = d.pair }) v b full)
-    (record { driver = record (take_next d k o) { pair = record d.pair { active = Some full } }; side = v })).driver
-    (cond (leb u.size (length full)) (hand_buffer u (record (take_next d k o) { pair = d.pair }) v b full)
-    (record { driver = record (take_next d k o) { pair = record d.pair { active = Some full } }; side = v })).side
-push_kept u d v k full o size same i b number =
-    let e : Driver = record (take_next d k o) { pair = record d.pair { active = Some full } } in
-    cond_both (leb u.size (length full)) (hand_buffer u (record (take_next d k o) { pair = d.pair }) v b full) (record { driver = e; side = v })
+-- the sample is written to the active buffer, which is handed if that filled it
+write_active : (least : ℕ) (u : Setup) (d : Driver) (v : Side) (s : Marked) (rest : List Marked) (es : List Counted) → IsSetup u → u.size ≡ v.buffer
+    → d.pair.active ≡ Some es → needs_write s.key d.table ≡ true → drop d.at u.samples ≡ s ∷ rest → s.mark ≤ v.heard / 2
+    → Loose v.third.handed least v.buffer u d v
+    → DriverInvariant u (push u (record { driver = d; side = v }) s.key es).driver (push u (record { driver = d; side = v }) s.key es).side
+write_active least u d v s rest es setup size active needs left mark i =
+    let few : (least ≤ length es) × (length es < v.buffer) = subst (λ (z : Option (List Counted)). IfSome z (λ es. (least ≤ length es) × (length es < v.buffer))) active i.active in
+    let full : List Counted = es ++ entry_to_write s.key d.table ∷ [] in
+    let d1 : Driver = take_next d s.key d.table in
+    let e : Driver = record d1 { pair = record d1.pair { active = Some full } } in
+    let n : ℕ = e.pair.active_number in
+    let handed : World = hand_buffer u e v n full in
+    let pushed : Loose v.third.handed 1 (v.buffer + 1) u e v = kept_pushed v.third.handed least v.buffer u d v es s rest d.table setup.rising refl needs active few.1 left mark i in
+    cond_both (leb u.size (length full)) handed (record { driver = e; side = v })
     (λ (z : World). DriverInvariant u z.driver z.side)
     (λ fills.
     let long : u.size ≤ length full = leb-true u.size (length full) fills in
-    let short : length full < v.buffer + 1 = i.active.1 in
-    let exact : length full ≡ u.size = omega arith in
-    let low : d.pair.active_number ≤ 1 = i.number in
-    by_number (λ (n : ℕ). b ≡ n → DriverInvariant u (hand_buffer u (record (take_next d k o) { pair = d.pair }) v n full).driver (hand_buffer u (record (take_next d k o) { pair = d.pair }) v n full).side)
-    b (omega (arith, number))
-    (λ zero_b. strict_of u (hand_buffer u e v 0 full).driver (hand_buffer u e v 0 full).side
-    (kept_hand0 v.third.handed v.third.handed 1 (v.buffer + 1) u e v full (λ cell c h. h) refl (sym number ∙ zero_b) i.active.0 (omega arith) (inl exact) i))
-    (λ one_b. strict_of u (hand_buffer u e v 1 full).driver (hand_buffer u e v 1 full).side
-    (kept_hand1 v.third.handed v.third.handed 1 (v.buffer + 1) u e v full (λ cell c h. h) refl (sym number ∙ one_b) i.active.0 (omega arith) (inl exact) i)) refl)
-    (λ partly. strict_of u e v (resized v.third.handed v.third.handed 1 (v.buffer + 1) 1 v.buffer u e v (λ cell c h. h) (i.active.0, omega (arith, leb-false u.size (length full) partly)) i))
-
--- the sample is written to the active buffer
-write_active : (least : ℕ) (u : Setup) (d : Driver) (v : Side) (s : Marked) (rest : List Marked) (es : List Counted) (o : Option Table) → IsSetup u → u.size ≡ v.buffer
-    → d.pair.active ≡ Some es → d.table ≡ o → needs_write s.key o ≡ true → drop d.at u.samples ≡ s ∷ rest → s.mark ≤ v.heard / 2
-    → Loose v.third.handed least v.buffer u d v
-    → DriverInvariant u (cond (leb u.size (length (es ++ entry_to_write s.key o ∷ []))) (hand_buffer u (take_next d s.key o) v (take_next d s.key o).pair.active_number (es ++ entry_to_write s.key o ∷ []))
-    (record { driver = record (take_next d s.key o) { pair = record (take_next d s.key o).pair { active = Some (es ++ entry_to_write s.key o ∷ []) } }; side = v })).driver
-    (cond (leb u.size (length (es ++ entry_to_write s.key o ∷ []))) (hand_buffer u (take_next d s.key o) v (take_next d s.key o).pair.active_number (es ++ entry_to_write s.key o ∷ []))
-    (record { driver = record (take_next d s.key o) { pair = record (take_next d s.key o).pair { active = Some (es ++ entry_to_write s.key o ∷ []) } }; side = v })).side
-write_active least u d v s rest es (Some t) setup size active held needs left mark i =
-    let few : (least ≤ length es) × (length es < v.buffer) = subst (λ (z : Option (List Counted)). IfSome z (λ es. (least ≤ length es) × (length es < v.buffer))) active i.active in
-    push_kept u d v s.key (es ++ entry_to_write s.key (Some t) ∷ []) (Some t) size refl
-    (kept_pushed v.third.handed least v.buffer u d v t es s rest setup.rising held needs active few.1 left mark i) d.pair.active_number refl
-write_active least u d v s rest es None setup size active held needs left mark i =
-    let few : (least ≤ length es) × (length es < v.buffer) = subst (λ (z : Option (List Counted)). IfSome z (λ es. (least ≤ length es) × (length es < v.buffer))) active i.active in
-    push_kept u d v s.key (es ++ entry_to_write s.key None ∷ []) None size refl
-    (kept_direct v.third.handed least v.buffer u d v es s rest setup.rising held active few.1 left mark i) d.pair.active_number refl
+    let short : length full < v.buffer + 1 = pushed.active.1 in
+    let kept = kept_hand v.third.handed v.third.handed 1 (v.buffer + 1) u e v full (λ cell c h. h) refl (pushed.active.0, omega arith, inl (omega arith)) pushed in
+    strict_of u handed.driver handed.side
+    (by_hand (λ (z : Side). Loose z.third.handed 1 z.buffer u handed.driver handed.side) v n (buffer_batch u e.at n (pair_handed e.pair n) full) kept kept))
+    (λ partly. strict_of u e v
+    (resized v.third.handed v.third.handed 1 (v.buffer + 1) 1 v.buffer u e v (λ cell c h. h) (pushed.active.0, omega (arith, leb-false u.size (length full) partly)) pushed))
 
 -- no buffer is back: the sample is lost or held
 write_none : (u : Setup) (d : Driver) (v : Side) (s : Marked) (rest : List Marked) (p : Pace) → IsSetup u → u.pace ≡ p → drop d.at u.samples ≡ s ∷ rest → s.mark ≤ v.heard / 2
@@ -147,16 +124,16 @@ write_kept : (u : Setup) (h : Two) (d : Driver) (v : Side) (s : Marked) (rest : 
     → Writes u s.key (find_buffer h d v a)
 write_kept u h d v s rest (Some es) setup size fair active needs left mark i =
     subst (λ (a : Option (List Counted)). KeepsAfter u (write u (record { driver = d; side = v }) s.key u.pace a)) (sym active)
-    (write_active 1 u d v s rest es d.table setup size active refl needs left mark i)
+    (write_active 1 u d v s rest es setup size active needs left mark i)
 write_kept u h d v s rest None setup size fair active needs left mark i =
     let tables = v.third.handed in let most = v.buffer in
     let v0 = side_look_buffer v 0 h.first in let v1 = side_look_buffer v 1 h.second in let both = side_look_buffer v0 1 h.second in
     look_ends (Writes u s.key) h d v d.pair.next i.next
-    (λ even. write_active 0 u (activate d 0) v0 s rest [] d.table setup size refl refl needs left mark (kept_back0 tables 1 most u d v h.first active even i))
-    (λ even. write_active 0 u (activate d 1) v1 s rest [] d.table setup size refl refl needs left mark (kept_back1 tables 1 most u d v h.second active even i))
-    (λ odd even. write_active 0 u (activate d 1) both s rest [] d.table setup size refl refl needs left mark
+    (λ even. write_active 0 u (activate d 0) v0 s rest [] setup size refl needs left mark (kept_back0 tables 1 most u d v h.first active even i))
+    (λ even. write_active 0 u (activate d 1) v1 s rest [] setup size refl needs left mark (kept_back1 tables 1 most u d v h.second active even i))
+    (λ odd even. write_active 0 u (activate d 1) both s rest [] setup size refl needs left mark
     (kept_back1 tables 1 most u d v0 h.second active even (kept_out0 tables 1 most u d v h.first active odd i)))
-    (λ odd even. write_active 0 u (activate d 0) (side_look_buffer v1 0 h.first) s rest [] d.table setup size refl refl needs left mark
+    (λ odd even. write_active 0 u (activate d 0) (side_look_buffer v1 0 h.first) s rest [] setup size refl needs left mark
     (kept_back0 tables 1 most u d v1 h.first active even (kept_out1 tables 1 most u d v h.second active odd i)))
     (λ odd0 odd1. subst (λ (a : Option (List Counted)). KeepsAfter u (write u (record { driver = d; side = both }) s.key u.pace a)) (sym active)
     (write_none u d both s rest u.pace setup refl left mark (odd_of h.first odd0) (fair.0 odd0) (odd_of h.second odd1) (fair.1 odd1)
