@@ -4,6 +4,8 @@
 
 mod laws;
 mod streams;
+mod threads;
 
 pub use laws::streams_are_in_order;
 pub use streams::{Streams, cut};
+pub use threads::cut_in_threads;

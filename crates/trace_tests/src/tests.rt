@@ -6,7 +6,7 @@ use sample_key::{Event, Key, Marked};
 use std::alloc::Global;
 use std::process::Abort;
 use std::test::Fail;
-use trace_cut::{cut, streams_are_in_order};
+use trace_cut::{cut, cut_in_threads, streams_are_in_order};
 use trace_text::{
     Line, PutError, Record, Step, Trace, TraceRefusal, TraceWhy, read_trace, write_trace,
 };
@@ -364,7 +364,6 @@ fn limits_are_kept(rt: HostRuntime) -> Result<(), Fail> {
 #[test]
 fn a_trace_is_cut_by_processor(rt: HostRuntime) -> Result<(), Fail> {
     let trace = read(rt.alloc(), EACH_FORM)?;
-    let streams = cut(rt.alloc(), &trace)?;
     streams_are_in_order(&trace);
     let first = Key {
         pid: 7,
@@ -376,17 +375,22 @@ fn a_trace_is_cut_by_processor(rt: HostRuntime) -> Result<(), Fail> {
         pc: 0xfffffffffffffffc,
         event: Event::Dmiss,
     };
-    assert!(rt; streams.lanes.len() == 2);
-    assert!(rt; streams.lanes[0].as_slice() == [Marked { key: last, mark: 9 }].as_slice());
-    assert!(rt;
-        streams.lanes[1].as_slice()
-            == [Marked {
-                key: first,
-                mark: 2
-            }]
-            .as_slice()
-    );
-    assert!(rt; streams.records.len() == 9);
-    assert!(rt; streams.records[8] == Record::Epoch);
+    for streams in [
+        cut(rt.alloc(), &trace)?,
+        cut_in_threads(&rt, rt.alloc(), &trace)?,
+    ] {
+        assert!(rt; streams.lanes.len() == 2);
+        assert!(rt; streams.lanes[0].as_slice() == [Marked { key: last, mark: 9 }].as_slice());
+        assert!(rt;
+            streams.lanes[1].as_slice()
+                == [Marked {
+                    key: first,
+                    mark: 2
+                }]
+                .as_slice()
+        );
+        assert!(rt; streams.records.len() == 9);
+        assert!(rt; streams.records[8] == Record::Epoch);
+    }
     Ok(())
 }
