@@ -30,6 +30,7 @@ use Rattle.dcpid_core.specs.Insides.{IsCurrent, IsSound, IsTask, records_of}
 use Rattle.dcpid_core.specs.Booking.{IsReady, IsSettled, epoch_next}
 use Rattle.dcpid_core.specs.declared.progress.Task.{Task}
 use Rattle.dcpid_core.specs.declared.progress.Progress.{Progress}
+use Rattle.trace_outline.specs.Views.{viewed}
 use Rattle.dcpid_core.proofs.Rungs.{take_next}
 
 -- a record that ends no part begins no epoch
@@ -90,7 +91,7 @@ current_moved task before after applied epoch notice here ends current applies i
 pub current_settled : (task : Task) (before after : Progress) (applied epoch : ℕ) (notice : Record) → slice_get (records_of task) applied ≡ Some notice → ends_part notice ≡ true → IsCurrent task applied epoch before → Applies before.map notice after.map → IsSettled task (epoch_next epoch notice) after → after.part ≡ before.part + 1 → after.noted.items ≡ [] → IsCurrent task (applied + 1) (epoch_next epoch notice) after
 current_settled task before after applied epoch notice here ends current applies settled part none = record {
   mappings = map_next task before after applied notice here current.mappings applies;
-  gathers = subst (λ ds. Gathers after.gathered task.outline.now.images.items (records_of task) ds) (sym none) settled.gathers;
+  gathers = subst (λ ds. Gathers after.gathered (viewed task.trace).images (records_of task) ds) (sym none) settled.gathers;
   images = settled.images;
   epochs = settled.epochs;
   drains = subst (λ ds. All IsDrained ds) (sym none) no_drains;
@@ -135,13 +136,13 @@ ready_now task progress applied epoch current = record {
 pub current_noted : (task : Task) (before after : Progress) (applied epoch : ℕ) (batch : Sent) → IsTask task → applied ≤ length (records_of task) → length batch.entries ≤ MOST_SAMPLES → IsCurrent task applied epoch before
     → after ≡ record before { gathered = after.gathered; noted = after.noted }
     → after.noted.items ≡ before.noted.items ++ drained (records_of task) applied epoch batch ∷ []
-    → Gathers after.gathered task.outline.now.images.items (records_of task) (before.noted.items ++ drained (records_of task) applied epoch batch ∷ [])
-    → ImagesAreIn task.outline.now.images.items after.gathered → EpochsAreUpTo epoch after.gathered
+    → Gathers after.gathered (viewed task.trace).images (records_of task) (before.noted.items ++ drained (records_of task) applied epoch batch ∷ [])
+    → ImagesAreIn (viewed task.trace).images after.gathered → EpochsAreUpTo epoch after.gathered
     → IsCurrent task applied epoch after
 current_noted task before after applied epoch batch is_task within few current only noted gathers images epochs =
     subst (λ p. IsCurrent task applied epoch p) (sym only) (record {
       mappings = current.mappings;
-      gathers = subst (λ ds. Gathers after.gathered task.outline.now.images.items (records_of task) ds) (sym noted) gathers;
+      gathers = subst (λ ds. Gathers after.gathered (viewed task.trace).images (records_of task) ds) (sym noted) gathers;
       images = images;
       epochs = epochs;
       drains = subst (λ ds. All IsDrained ds) (sym noted) (All-push IsDrained before.noted.items _ current.drains (record {
@@ -164,9 +165,9 @@ pub epoch_most : (h : Head) → is_in_range h ≡ true → h.epoch ≤ 65536
 epoch_most h range = let r = ranges_of h range in omega (arith, r.epoch, r.count)
 
 -- before the first step
-pub sound_start : (task : Task) (progress : Progress) → progress.applied ≡ 0 → progress.asking ≡ false → length progress.flushes.items ≡ task.outline.now.cpus
+pub sound_start : (task : Task) (progress : Progress) → progress.applied ≡ 0 → progress.asking ≡ false → length progress.flushes.items ≡ (viewed task.trace).cpus
     → progress.epoch ≡ (head_of progress.db).epoch → is_in_range (head_of progress.db) ≡ true
-    → StandsFor progress.map [] → Gathers progress.gathered task.outline.now.images.items (records_of task) [] → ImagesAreIn task.outline.now.images.items progress.gathered → EpochsAreUpTo progress.epoch progress.gathered
+    → StandsFor progress.map [] → Gathers progress.gathered (viewed task.trace).images (records_of task) [] → ImagesAreIn (viewed task.trace).images progress.gathered → EpochsAreUpTo progress.epoch progress.gathered
     → progress.noted.items ≡ [] → failed_of progress.db ≡ None → task.run ≡ (head_of progress.db).runs + 1 → progress.part ≡ 0 → IsSound task progress
 sound_start task progress applied asking flushes epoch range stands gathers images epochs noted works run part = record {
   stands = record { within = omega (arith, applied); need = λ asks. absurd (never asks) };
@@ -174,7 +175,7 @@ sound_start task progress applied asking flushes epoch range stands gathers imag
   epochs = omega (arith, epoch, epoch_most (head_of progress.db) range);
   current = λ e. record {
     mappings = subst (λ n. StandsFor progress.map (take n (records_of task))) (sym applied) stands;
-    gathers = subst (λ ds. Gathers progress.gathered task.outline.now.images.items (records_of task) ds) (sym noted) gathers;
+    gathers = subst (λ ds. Gathers progress.gathered (viewed task.trace).images (records_of task) ds) (sym noted) gathers;
     images = images;
     epochs = epochs;
     drains = subst (λ ds. All IsDrained ds) (sym noted) (λ k d lt. absurd (omega (arith, lt)));

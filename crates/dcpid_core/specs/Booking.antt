@@ -15,6 +15,7 @@ use Rattle.dcpid_core.specs.Storing.{HasFailed, IsCommitted, Part}
 use Rattle.dcpid_core.specs.Parts.{part_in}
 use Rattle.dcpid_core.specs.Insides.{records_of}
 use Rattle.dcpid_core.specs.declared.progress.Task.{Task}
+use Rattle.trace_outline.specs.Views.{viewed}
 use Rattle.dcpid_core.specs.declared.progress.Progress.{Progress}
 
 -- The books after a record was put in force, where it ends a part and where not, and this is the epoch afterwards.
@@ -38,8 +39,8 @@ KeepsBooks files faults moment left_since false epoch daemon store (Err fault) n
 
 -- A part was committed: nothing is gathered for the next one, and the database is at this epoch and at the task's run.
 pub record IsSettled (task : Task) (epoch : ℕ) (progress : Progress) : Type 0 where
-  pub gathers : Gathers progress.gathered task.outline.now.images.items (records_of task) []
-  pub images : ImagesAreIn task.outline.now.images.items progress.gathered
+  pub gathers : Gathers progress.gathered (viewed task.trace).images (records_of task) []
+  pub images : ImagesAreIn (viewed task.trace).images progress.gathered
   pub epochs : EpochsAreUpTo epoch progress.gathered
   pub works : failed_of progress.db ≡ None
   pub run : task.run ≡ (head_of progress.db).runs
@@ -51,9 +52,9 @@ epoch_next epoch notice = epoch + (if begins_epoch notice then 1 else 0)
 
 -- A part may be committed with this epoch afterwards, the last one or the next.
 pub record IsReady (task : Task) (epoch : ℕ) (progress : Progress) : Type 0 where
-  pub gathers : Gathers progress.gathered task.outline.now.images.items (records_of task)
+  pub gathers : Gathers progress.gathered (viewed task.trace).images (records_of task)
       progress.noted.items
-  pub images : ImagesAreIn task.outline.now.images.items progress.gathered
+  pub images : ImagesAreIn (viewed task.trace).images progress.gathered
   pub epochs : EpochsAreUpTo epoch progress.gathered
   pub drains : All IsDrained progress.noted.items
   pub works : failed_of progress.db ≡ None

@@ -8,7 +8,7 @@ use Rattle.trace_laws.specs.Kept.{PlacesHaveImages}
 use Rattle.trace_model.specs.Streams.{records_in}
 use Rattle.trace_model.specs.declared.limits.TheConstants.{MOST_CPUS, MOST_PARTS, MOST_RECORDS}
 use Rattle.trace_model.specs.declared.notices.Record.{Record}
-use Rattle.trace_outline.specs.Outlines.{outlined}
+use Rattle.trace_outline.specs.Views.{viewed}
 use Rattle.load_map.specs.Maps.{StandsFor}
 use Rattle.database_model.specs.Ranges.{IsDrained}
 use Rattle.epoch_store.specs.Databases.{failed_of, head_of}
@@ -32,7 +32,7 @@ state_of progress = record {
 -- the daemon as contracts see it
 abbrev pub collection_of : Task → Progress → Collection
 collection_of task progress = record {
-  trace = outlined task.outline.now;
+  trace = viewed task.trace;
   pace = task.pace;
   run = task.run;
   first_epoch = task.first_epoch;
@@ -46,7 +46,7 @@ collection_of task progress = record {
 
 -- the records of its trace
 abbrev pub records_of : Task → List Record
-records_of task = records_in (outlined task.outline.now)
+records_of task = records_in (viewed task.trace)
 
 -- What never changes: the records are those of the trace, and within its limits.
 pub record IsTask (task : Task) : Type 0 where
@@ -54,19 +54,19 @@ pub record IsTask (task : Task) : Type 0 where
   pub few : length (records_of task) ≤ MOST_RECORDS
   pub parts : count_by ends_part (records_of task) ≤ MOST_PARTS
   pub ranges : AllByRecursion (λ notice. keeps_ranges notice ≡ true) (records_of task)
-  pub some_cpus : 1 ≤ task.outline.now.cpus
-  pub cpus : task.outline.now.cpus ≤ MOST_CPUS
-  pub apart : IsDistinct bytes_eq task.outline.now.images.items
-  pub images : PlacesHaveImages (outlined task.outline.now)
+  pub some_cpus : 1 ≤ (viewed task.trace).cpus
+  pub cpus : (viewed task.trace).cpus ≤ MOST_CPUS
+  pub apart : IsDistinct bytes_eq (viewed task.trace).images
+  pub images : PlacesHaveImages (viewed task.trace)
   pub run : 1 ≤ task.run
 
 -- What holds while no fault is kept, where so many records are in force and this is the epoch: the map and the counts are those
 -- of the records and the drains, and the database has the parts that ended.
 pub record IsCurrent (task : Task) (applied epoch : ℕ) (progress : Progress) : Type 0 where
   pub mappings : StandsFor progress.map (take applied (records_of task))
-  pub gathers : Gathers progress.gathered task.outline.now.images.items (records_of task)
+  pub gathers : Gathers progress.gathered (viewed task.trace).images (records_of task)
       progress.noted.items
-  pub images : ImagesAreIn task.outline.now.images.items progress.gathered
+  pub images : ImagesAreIn (viewed task.trace).images progress.gathered
   pub epochs : EpochsAreUpTo epoch progress.gathered
   pub drains : All IsDrained progress.noted.items
   pub works : failed_of progress.db ≡ None
@@ -77,7 +77,7 @@ pub record IsCurrent (task : Task) (applied epoch : ℕ) (progress : Progress) :
 -- What holds between any two calls.
 pub record IsSound (task : Task) (progress : Progress) : Type 0 where
   pub stands : StandsWell task.pace (records_of task) (state_of progress)
-  pub flushes : length progress.flushes.items ≡ task.outline.now.cpus
+  pub flushes : length progress.flushes.items ≡ (viewed task.trace).cpus
   pub epochs : progress.epoch ≤ MOST_RECORDS + progress.applied
   pub current : progress.failure ≡ None →
       IsCurrent task progress.applied progress.epoch progress

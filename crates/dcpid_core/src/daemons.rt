@@ -4,7 +4,8 @@
 //! not committed, the head of its database, and the fault that it keeps.
 ghost use Rattle.std.specs.Prelude.{◌≡◌, ◌<◌, ◌≤◌, None, map, true, IfOk};
 ghost use Rattle.trace_model.specs.Streams.{records_in};
-ghost use Rattle.trace_outline.specs.Outlines.{outlined};
+ghost use Rattle.trace_model.specs.Traces.{recording_of};
+ghost use Rattle.trace_outline.specs.Views.{viewed};
 ghost use Rattle.epoch_store.specs.Databases.{failed_of, head_of};
 ghost use Rattle.sample_key.specs.declared.limits.TheConstants.{LAST_CELL};
 ghost use Rattle.dcpid_core.specs.Collection.{AreFitting, IsFitting, new_collection, rang_if, views};
@@ -23,8 +24,8 @@ use sample_key::{Loss, Pace};
 use std::alloc::{AllocError, Global};
 use std::marker::Model;
 use store_io::Store;
-use trace_model::Record;
-use trace_outline::Outline;
+use trace_model::{Record, Trace};
+use trace_outline::TraceView;
 
 /// The daemon of one run of a trace, with the database that the run goes into.
 #[derive(Drop)]
@@ -46,21 +47,37 @@ impl<'a> Model for Daemon<'a> {
 }
 
 impl<'a> Daemon<'a> {
-    /// A daemon before its first step, for a run of the trace of this outline, whose records these are, into this database, of
-    /// which no commit has failed. It fails only for want of memory.
+    /// A daemon before its first step, for a run of this trace, whose records these are, into this database, of which no commit
+    /// has failed. It fails only for want of memory.
     pub fn new(
         alloc: Global,
-        outline: &'a Outline,
+        trace: &'a Trace,
         records: &'a [Record],
         pace: Pace,
         db: Database,
     ) -> Result<Daemon<'a>, AllocError>
-        requires records { records.now ≡ records_in (outlined outline.now) }
+        requires records { records.now ≡ records_in (recording_of trace.now) }
         requires works { failed_of db ≡ None }
         ensures { IfOk result (λ daemon.
-            daemon ≡ new_collection (outlined outline.now) pace (head_of db)) }
+            daemon ≡ new_collection (recording_of trace.now) pace (head_of db)) }
     {
-        let task = Task::of(outline, records, pace, &db);
+        Daemon::of_view(alloc, &TraceView::Whole(trace), records, pace, db)
+    }
+
+    /// The same for a trace that is seen whole or in outline.
+    pub fn of_view(
+        alloc: Global,
+        trace: &TraceView<'a>,
+        records: &'a [Record],
+        pace: Pace,
+        db: Database,
+    ) -> Result<Daemon<'a>, AllocError>
+        requires records { records.now ≡ records_in (viewed trace.now) }
+        requires works { failed_of db ≡ None }
+        ensures { IfOk result (λ daemon.
+            daemon ≡ new_collection (viewed trace.now) pace (head_of db)) }
+    {
+        let task = Task::of(trace, records, pace, &db);
         let progress = Progress::at_start(alloc, &task, db)?;
         Ok(Daemon { task, progress })
     }

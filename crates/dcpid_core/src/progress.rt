@@ -5,7 +5,7 @@ ghost use Rattle.sample_key.specs.declared.limits.TheConstants.{MOST_SAMPLES};
 ghost use Rattle.trace_model.specs.Parts.{begins_epoch, ends_part};
 ghost use Rattle.trace_model.specs.Streams.{records_in};
 ghost use Rattle.trace_model.specs.declared.limits.TheConstants.{MOST_PARTS, MOST_RECORDS};
-ghost use Rattle.trace_outline.specs.Outlines.{outlined};
+ghost use Rattle.trace_outline.specs.Views.{viewed};
 ghost use Rattle.driver_model.specs.Sides.{slot_of};
 ghost use Rattle.lane_side.specs.Calls.{PollsEvenly};
 ghost use Rattle.database_model.specs.Ranges.{EndsWith};
@@ -42,13 +42,13 @@ use std::alloc::{AllocError, Global};
 use std::mem;
 use store_io::Store;
 use trace_model::Record;
-use trace_outline::{Outline, outlines_keep_limits};
+use trace_outline::{TraceView, views_keep_limits};
 
 // What a daemon is made for; it never changes.
 #[derive(Drop)]
 pub(crate) struct Task<'a> {
-    // The outline of the trace, and its records in order.
-    pub(crate) outline: &'a Outline,
+    // The trace, and its records in order.
+    pub(crate) trace: TraceView<'a>,
     pub(crate) records: &'a [Record],
     // Whether every record waits for a flush.
     pub(crate) pace: Pace,
@@ -60,21 +60,21 @@ pub(crate) struct Task<'a> {
 impl<'a> Task<'a> {
     // The task of a run of this trace into this database.
     pub(crate) fn of(
-        outline: &'a Outline,
+        trace: &TraceView<'a>,
         records: &'a [Record],
         pace: Pace,
         db: &Database,
     ) -> Task<'a>
-        requires { records.now ≡ records_in (outlined outline.now) }
+        requires { records.now ≡ records_in (viewed trace.now) }
         ensures is { IsTask result }
-        ensures outline { result.outline.now ≡ outline.now }
+        ensures trace { result.trace ≡ trace.now }
         ensures pace { result.pace ≡ pace }
         ensures run { result.run ≡ (head_of db.now).runs + 1 }
         ensures first_epoch { result.first_epoch ≡ (head_of db.now).epoch }
     {
-        outlines_keep_limits(outline);
+        views_keep_limits(trace);
         Task {
-            outline,
+            trace: *trace,
             records,
             pace,
             run: db.runs() + 1,
@@ -119,10 +119,10 @@ impl Progress {
         requires first_epoch { task.now.first_epoch ≡ (head_of db).epoch }
         requires works { failed_of db ≡ None }
         ensures start { IfOk result (λ progress. collection_of task.now progress
-            ≡ new_collection (outlined task.now.outline.now) task.now.pace (head_of db)) }
+            ≡ new_collection (viewed task.now.trace) task.now.pace (head_of db)) }
         ensures sound { IfOk result (IsSound task.now) }
     {
-        let cpus = task.outline.cpus as usize;
+        let cpus = task.trace.cpus() as usize;
         let flushes = vec![in alloc; Flush::none(); cpus]?;
         let epoch = db.last_epoch();
         Ok(Progress {
@@ -153,7 +153,7 @@ impl Progress {
         requires number { b ≤ 1 }
         requires task { IsTask task.now }
         requires sound { IsSound task.now self.old }
-        requires cpu { cpu < task.now.outline.now.cpus }
+        requires cpu { cpu < (viewed task.now.trace).cpus }
         requires fitting { IsFitting (collection_of task.now self.old) cpu (T.fixed side.old)
             (T.far side.old) }
         requires evenly { PollsEvenly (T.fixed side.old).even
@@ -188,7 +188,7 @@ impl Progress {
     ) -> Polled
         requires task { IsTask task.now }
         requires sound { IsSound task.now self.old }
-        requires cpu { cpu < task.now.outline.now.cpus }
+        requires cpu { cpu < (viewed task.now.trace).cpus }
         requires fitting { IsFitting (collection_of task.now self.old) cpu (T.fixed side.old)
             (T.far side.old) }
         requires evenly { PollsEvenly (T.fixed side.old).even (T.seen side.old).third.tries
@@ -225,7 +225,7 @@ impl Progress {
     ) -> Polled
         requires task { IsTask task.now }
         requires sound { IsSound task.now self.old }
-        requires cpu { cpu < task.now.outline.now.cpus }
+        requires cpu { cpu < (viewed task.now.trace).cpus }
         requires entries { length (B.entries body.now) ≤ note.upto }
         ensures takes { Takes cpu cell (record { note = note; entries = B.entries body.now })
             (collection_of task.now self.old) result (collection_of task.now self.new) }
@@ -614,7 +614,7 @@ impl Progress {
             drains,
             losses,
         };
-        let images = &task.outline.images;
+        let images = task.trace.images();
         let stored = store_part(
             alloc,
             &mut self.db,
@@ -642,7 +642,7 @@ impl Progress {
     ) -> Result<RunRecord, DbFault>
         requires task { IsTask task.now }
         requires sound { IsSound task.now self }
-        requires losses { AreLossesOf task.now.outline.now.cpus (map (λ v. v.items) losses.items) }
+        requires losses { AreLossesOf (viewed task.now.trace).cpus (map (λ v. v.items) losses.items) }
         ensures finishes { Finishes D.files D.faults D.moment D.left_since
             (collection_of task.now self) (map (λ v. v.items) losses.items) self.failure store.old
             result store.new }

@@ -5,7 +5,7 @@ ghost use Rattle.trace_model.specs.declared.notices.Step.TheVariants as doings;
 ghost use Rattle.trace_cut.specs.Cutting.{lanes_in};
 ghost use Rattle.trace_model.specs.Streams.{records_in, streams_in};
 ghost use Rattle.trace_model.specs.Traces.{recording_of};
-ghost use Rattle.trace_outline.specs.Outlines.{outlined};
+ghost use Rattle.trace_outline.specs.Views.{viewed};
 ghost use Rattle.epoch_store.specs.Databases.{failed_of, head_of};
 ghost use Rattle.replay_drive.specs.Ending.{IsAtStart, IsRoundOf, polls_of};
 ghost use Rattle.replay_drive.specs.Outcomes.{IsReplayOf, Leaves, fault_in};
@@ -21,7 +21,7 @@ use std::alloc::{AllocError, Global};
 use store_io::Store;
 use trace_cut::{Streams, cut};
 use trace_model::{Record, Step, Trace};
-use trace_outline::{Outline, outlines_are_fit};
+use trace_outline::{Outline, TraceView, views_are_fit};
 
 /// More rounds than any trace needs: one for each sample, four for each record, and eight.
 pub const MOST_ROUNDS: u64 = 16 * 2_000_000 + 4 * 65_536 + 8;
@@ -43,8 +43,7 @@ pub fn replay<D: Store>(
     ensures origin { D.origin store.new ≡ D.origin store.old }
 {
     let Streams { lanes, records } = cut(alloc, trace)?;
-    let outline = Outline::copied(alloc, trace)?;
-    replay_streams(alloc, &outline, &records, lanes, db, store)
+    replay_streams(alloc, &TraceView::Whole(trace), &records, lanes, db, store)
 }
 
 /// The same for a trace that is not used any more: its lines, 40 bytes each, are given back before the first step.
@@ -62,31 +61,32 @@ pub fn replay_owned<D: Store>(
 {
     let Streams { lanes, records } = cut(alloc, &trace)?;
     let outline = Outline::of(trace);
-    replay_streams(alloc, &outline, &records, lanes, db, store)
+    let view = TraceView::Outline(&outline);
+    replay_streams(alloc, &view, &records, lanes, db, store)
 }
 
-// The same, by the outline of the trace, its records and its samples.
+// The same, by the trace without its lines, its records and its samples.
 fn replay_streams<'a, D: Store>(
     alloc: Global,
-    outline: &'a Outline,
+    trace: &TraceView<'a>,
     records: &'a [Record],
     samples: Vec<Vec<Marked>>,
     db: Database,
     store: &mut D,
 ) -> Result<Outcome, DbFault>
-    requires records { records.now ≡ records_in (outlined outline.now) }
-    requires samples { lanes_in samples.items ≡ streams_in (outlined outline.now) }
+    requires records { records.now ≡ records_in (viewed trace.now) }
+    requires samples { lanes_in samples.items ≡ streams_in (viewed trace.now) }
     requires works { failed_of db ≡ None }
-    ensures run { IfOk result (IsReplayOf (outlined outline.now) (head_of db)) }
-    ensures leaves { Leaves D.files D.faults D.moment D.left_since (outlined outline.now)
+    ensures run { IfOk result (IsReplayOf (viewed trace.now) (head_of db)) }
+    ensures leaves { Leaves D.files D.faults D.moment D.left_since (viewed trace.now)
         (head_of db) store.old store.new (fault_in result) }
     ensures origin { D.origin store.new ≡ D.origin store.old }
 {
-    outlines_are_fit(outline);
+    views_are_fit(trace);
     runs_end_well();
-    let round = round_of(alloc, outline.cpus)?;
-    let mut replay = at_start(alloc, outline, records, samples, db)?;
-    replay.steps(alloc, &outline.schedule, store);
+    let round = round_of(alloc, trace.cpus())?;
+    let mut replay = at_start(alloc, trace, records, samples, db)?;
+    replay.steps(alloc, trace.schedule(), store);
     replay.rounds(alloc, &round, MOST_ROUNDS, store);
     replay.end(alloc, store)
 }
@@ -94,20 +94,20 @@ fn replay_streams<'a, D: Store>(
 // A replay of a trace with these records and samples, before its first step.
 fn at_start<'a>(
     alloc: Global,
-    outline: &'a Outline,
+    trace: &TraceView<'a>,
     records: &'a [Record],
     samples: Vec<Vec<Marked>>,
     db: Database,
 ) -> Result<Replay<'a>, AllocError>
-    requires records { records.now ≡ records_in (outlined outline.now) }
-    requires samples { lanes_in samples.items ≡ streams_in (outlined outline.now) }
+    requires records { records.now ≡ records_in (viewed trace.now) }
+    requires samples { lanes_in samples.items ≡ streams_in (viewed trace.now) }
     requires works { failed_of db ≡ None }
-    ensures { IfOk result (IsAtStart (outlined outline.now) (head_of db)) }
+    ensures { IfOk result (IsAtStart (viewed trace.now) (head_of db)) }
 {
-    outlines_are_fit(outline);
+    views_are_fit(trace);
     laws();
-    let players = new_players(alloc, outline, records.len(), samples)?;
-    let daemon = Daemon::new(alloc, outline, records, Pace::Free, db)?;
+    let players = new_players(alloc, trace, records.len(), samples)?;
+    let daemon = Daemon::of_view(alloc, trace, records, Pace::Free, db)?;
     Ok(Replay {
         lanes: players.lanes,
         sides: players.sides,

@@ -1,1 +1,1 @@
-pub mod Outlines
+pub mod Views

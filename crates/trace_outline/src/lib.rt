@@ -4,6 +4,8 @@
 
 mod laws;
 mod outlines;
+mod views;
 
-pub use laws::{outlines_are_fit, outlines_keep_limits};
+pub use laws::{views_are_fit, views_keep_limits};
 pub use outlines::Outline;
+pub use views::TraceView;

@@ -2,8 +2,6 @@
 
 ghost use Rattle.trace_model.specs.Recording.{AreGood, InOrder};
 
-use image_catalog::copies_of;
-use std::alloc::{AllocError, Global};
 use std::snapshot::Snapshot;
 use text_num::Name;
 use trace_model::{Line, Step, Trace};
@@ -29,13 +27,13 @@ pub struct Outline {
 }
 
 impl Outline {
-    ghost use Rattle.std.specs.Prelude.{◌≡◌, IfOk};
+    ghost use Rattle.std.specs.Prelude.{◌≡◌};
     ghost use Rattle.trace_model.specs.Traces.{recording_of};
-    ghost use Rattle.trace_outline.specs.Outlines.{outlined};
+    ghost use Rattle.trace_outline.specs.Views.{outlined};
 
     /// The outline of a trace, whose lines are given back to the allocator.
     pub fn of(trace: Trace) -> Outline
-        ensures { outlined result ≡ recording_of trace }
+        ensures { recording_of (outlined result) ≡ recording_of trace }
     {
         Outline {
             cpus: trace.cpus,
@@ -45,21 +43,5 @@ impl Outline {
             lines: Snapshot::of(&trace.lines),
             schedule: trace.schedule,
         }
-    }
-
-    /// The outline of a trace that stays as it is: its images and its schedule are copied. It fails only for want of memory.
-    pub fn copied(alloc: Global, whole: &Trace) -> Result<Outline, AllocError>
-        ensures { IfOk result (λ outline. outlined outline ≡ recording_of whole.now) }
-    {
-        let images = copies_of(alloc, &whole.images)?;
-        let schedule = Vec::from_slice(alloc, &whole.schedule)?;
-        Ok(Outline {
-            cpus: whole.cpus,
-            buckets: whole.buckets,
-            buffer: whole.buffer,
-            images,
-            lines: Snapshot::of(&whole.lines),
-            schedule,
-        })
     }
 }

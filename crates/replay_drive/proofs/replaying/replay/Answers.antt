@@ -9,8 +9,3 @@ pub returns-in_err-lanes-clause-leaves : goal.returns-in_err-lanes-clause-leaves
 returns-in_err-lanes-clause-leaves g c =
     let p = err_from_is_err_and c.from_residual.result c.from_residual.ensures.1 in
     rw (p.1, p.2) (nothing_done g.D.Store.files g.D.Store.faults g.D.Store.moment g.D.Store.left_since (recording_of c.args.trace.now) _ (head_of c.args.db) c.args.store.now)
-
-pub returns-in_err-outline-clause-leaves : goal.returns-in_err-outline-clause-leaves
-returns-in_err-outline-clause-leaves g c =
-    let p = err_from_is_err_and c.from_residual-in_err-outline.result c.from_residual-in_err-outline.ensures.1 in
-    rw (p.1, p.2) (nothing_done g.D.Store.files g.D.Store.faults g.D.Store.moment g.D.Store.left_since (recording_of c.args.trace.now) _ (head_of c.args.db) c.args.store.now)

@@ -1,12 +1,12 @@
--- The laws of a trace, at the one of the outline.
+-- The laws of a trace, at the one that is seen.
 use Rattle.trace_cut.proofs.Bounding.{is_stream}
 use Rattle.trace_laws.proofs.Keeping.{limits, processors, sizes}
-use Rattle.trace_outline.proofs.Whole.{whole}
-use Rattle.trace_outline.proofs.laws.outlines_are_fit.Goals as goal
+use Rattle.trace_outline.specs.Views.{whole_of}
+use Rattle.trace_outline.proofs.laws.views_are_fit.Goals as goal
 
 pub returns : goal.returns
 returns c =
-    let trace = whole c.args.outline.now in
+    let trace = whole_of c.args.view.now in
     let kept = sizes trace in
     record {
       some = kept.some_cpus;
