@@ -1,5 +1,5 @@
 -- The daemon's rounds, from the first to any.
-use Rattle.std.proofs.Common.{◌≡◌, arith, ap, subst, sym, ◌∙◌, ℕ, ◌+◌, List, Option, length, map}
+use Rattle.std.proofs.Common.{◌≡◌, ap, subst, sym, ◌∙◌, ℕ, ◌+◌, List, Option, length, map}
 use Rattle.std.proofs.lemmas.List.{length-map}
 use Rattle.sample_key.specs.declared.losses.Pace.{Pace}
 use Rattle.trace_model.specs.Recording.{Recording}

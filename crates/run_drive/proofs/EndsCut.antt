@@ -1,5 +1,5 @@
 -- A run whose daemon keeps a fault: what it drained before is that of a run that was cut short.
-use Rattle.std.proofs.Common.{◌≡◌, refl, ◌∙◌, ap, subst, arith, sym, ℕ, zero, suc, ◌+◌, ◌<◌, List, [], ◌∷◌, ◌++◌, Some, None}
+use Rattle.std.proofs.Common.{◌≡◌, refl, ◌∙◌, ap, subst, arith, ℕ, zero, suc, ◌+◌, List, [], ◌∷◌, ◌++◌, Some}
 use Rattle.std.specs.Prelude.{slice_get}
 use Rattle.sample_key.specs.Sent.{Sent}
 use Rattle.sample_key.specs.declared.losses.Pace.{Pace}

@@ -1,7 +1,7 @@
 -- A finished run whose lanes were joined: its record is valid, and its statistics agree with it.
-use Rattle.std.proofs.Common.{◌≡◌, refl, sym, ◌∙◌, ap, subst, arith, ℕ, zero, suc, ◌+◌, ◌/◌, ◌<◌, ◌≤◌, true, List, [], ◌∷◌, ◌++◌, length, map, None, Some, Option}
+use Rattle.std.proofs.Common.{◌≡◌, refl, sym, ◌∙◌, ap, subst, arith, ℕ, zero, suc, ◌+◌, ◌/◌, ◌<◌, ◌≤◌, true, List, [], ◌∷◌, length, map, None, Some, Option}
 use Rattle.std.specs.Prelude.{slice_get, slice_index_or, IsSomeAnd}
-use Rattle.std.specs.List.{All, AllByRecursion}
+use Rattle.std.specs.List.{AllByRecursion}
 use Rattle.std.proofs.lemmas.List.{length-map}
 use Rattle.std.proofs.lemmas.List.Elements.{All-from_recursion}
 use Rattle.std.proofs.lemmas.Option.{get_or_from_slice_get}
@@ -10,7 +10,6 @@ use Rattle.sample_key.specs.declared.losses.Pace.{Pace}
 use Rattle.sample_key.specs.declared.losses.Pace.TheVariants.{Exact}
 use Rattle.trace_model.specs.Recording.{Recording}
 use Rattle.trace_model.specs.Streams.{stream_of, records_in}
-use Rattle.driver_model.specs.Lists.{AllOf}
 use Rattle.driver_model.specs.Driver.{Setup}
 use Rattle.driver_model.specs.Invariant.{DriverInvariant}
 use Rattle.driver_model.specs.declared.plans.Stats.{Stats}
@@ -19,7 +18,7 @@ use Rattle.database_model.specs.Ranges.{AreLosses}
 use Rattle.database_model.specs.Runs.{Recorded}
 use Rattle.run_model.specs.Daemon.{Daemon, flush_before, is_flushed}
 use Rattle.run_model.specs.Running.{setup_of}
-use Rattle.run_model.specs.Shares.{AgreesWith, Share, drains_of, share_in, share_of}
+use Rattle.run_model.specs.Shares.{AgreesWith, drains_of, share_in, share_of}
 use Rattle.run_model.specs.Validity.{IsValidRun, StatisticsAgree}
 use Rattle.run_laws.specs.Laws.{IsFit}
 use Rattle.run_laws.proofs.Endings.{got_within}

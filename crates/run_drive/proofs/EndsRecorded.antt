@@ -1,10 +1,10 @@
 -- The record of a finished run can be stored, and its outcome is that of a run.
-use Rattle.std.proofs.Common.{◌≡◌, refl, sym, ◌∙◌, ap, subst, arith, ℕ, zero, suc, ◌+◌, ◌<◌, ◌≤◌, Bool, true, false, cond, List, [], ◌∷◌, length, map, Option, Some, None, Ok, Err}
+use Rattle.std.proofs.Common.{◌≡◌, refl, sym, ◌∙◌, ap, subst, arith, ℕ, zero, suc, ◌+◌, ◌<◌, ◌≤◌, List, [], ◌∷◌, length, Option, Some, None, Ok}
 use Rattle.std.specs.Prelude.{slice_get, IsSomeAnd}
 use Rattle.sample_key.specs.declared.losses.Loss.{Loss}
 use Rattle.sample_key.specs.declared.losses.Pace.{Pace}
 use Rattle.trace_model.specs.Recording.{Recording}
-use Rattle.trace_model.specs.Streams.{stream_of, records_in}
+use Rattle.trace_model.specs.Streams.{stream_of}
 use Rattle.driver_model.specs.Lists.{AllOf}
 use Rattle.driver_model.specs.Invariant.{entries_of}
 use Rattle.driver_model.specs.declared.plans.Stats.{Stats}
@@ -12,9 +12,8 @@ use Rattle.database_model.specs.Ranges.{IsDrained, IsRecorded}
 use Rattle.database_model.specs.Runs.{Drained, Recorded}
 use Rattle.store_io.specs.Files.{Files}
 use Rattle.database_state.specs.Heads.{Head}
-use Rattle.database_state.specs.declared.faults.DbFault.{DbFault}
 use Rattle.run_model.specs.Shares.{AgreesWith, Share, batches_in, drains_of, share_of}
-use Rattle.run_model.specs.Validity.{AreDrains, IsOfTrace, IsPlaced, IsValidRun, StatisticsAgree}
+use Rattle.run_model.specs.Validity.{AreDrains, IsValidRun, StatisticsAgree}
 use Rattle.run_exact.specs.Exact.{IsExactRecord}
 use Rattle.sample_key.specs.declared.losses.Pace.TheVariants.{Exact}
 use Rattle.run_laws.specs.Laws.{IsFit}

@@ -1,8 +1,7 @@
 -- What the end of a run leaves of the store: all parts, or those before a fault.
-use Rattle.std.proofs.Common.{◌≡◌, refl, sym, ◌∙◌, ap, subst, arith, ℕ, ◌+◌, ◌≤◌, Bool, true, false, List, [], length, take, map, append-nil, Option, Some, None, Ok, Err, eqb, eq-eqb}
-use Rattle.std.specs.Prelude.{filter, ◌≢◌}
+use Rattle.std.proofs.Common.{◌≡◌, refl, sym, ◌∙◌, ap, subst, arith, ℕ, ◌+◌, ◌≤◌, Bool, true, false, List, [], length, take, append-nil, Option, Some, None, Ok, Err, eqb, eq-eqb}
+use Rattle.std.specs.Prelude.{filter}
 use Rattle.std.specs.List.{count_by}
-use Rattle.std.specs.declared.result.Result.{Result}
 use Rattle.std.proofs.lemmas.Bool.{cond-true}
 use Rattle.std.proofs.lemmas.List.Sums.{length-filter}
 use Rattle.sample_key.specs.declared.losses.Loss.{Loss}
@@ -15,7 +14,6 @@ use Rattle.database_model.specs.Runs.{Drained, Recorded, Segment}
 use Rattle.store_io.specs.Files.{Files}
 use Rattle.database_state.specs.Heads.{Head}
 use Rattle.database_state.specs.declared.faults.DbFault.{DbFault}
-use Rattle.database_state.specs.declared.faults.DbFault.TheVariants.{Memory}
 use Rattle.growth_model.specs.Grown.{epoch_after_parts, part_count}
 use Rattle.lane_side.specs.Plain.{Plain}
 use Rattle.run_model.specs.Daemon.{Daemon}
@@ -30,12 +28,11 @@ use Rattle.replay_drive.specs.Growing.{KeepsStore}
 use Rattle.replay_drive.proofs.AdvanceStores.{store_as}
 use Rattle.replay_drive.proofs.PartsKept.{epoch_by_parts}
 use Rattle.std.proofs.lemmas.List.{take_all}
-use Rattle.replay_drive.proofs.StoreKept.{FollowsOn as Follows, IsNextPart, store_fails, store_grows}
-use Rattle.daemon_rounds.specs.Going.{IsOver}
+use Rattle.replay_drive.proofs.StoreKept.{IsNextPart, store_fails, store_grows}
 use Rattle.daemon_rounds.specs.Knowing.{Knows}
 use Rattle.daemon_rounds.specs.Storing.{GoesOnFrom}
 use Rattle.run_drive.specs.Ending.{WereJoined}
-use Rattle.run_drive.specs.Outcomes.{FollowsOn, LeavesAll, StopsRun}
+use Rattle.run_drive.specs.Outcomes.{LeavesAll, StopsRun}
 use Rattle.run_drive.specs.Running.{HasFinished, plain_sides}
 use Rattle.run_drive.proofs.EndsJoined.{EndLaws, WasFinished, losses_in, record_with, run_valid, until_all}
 use Rattle.run_drive.proofs.EndsCut.{run_cut}

@@ -1,15 +1,13 @@
 -- A run inside its scope: what holds before its first round, and that its joined lanes can be ended.
-use Rattle.std.proofs.Common.{◌≡◌, refl, sym, ◌∙◌, ap, subst, arith, ℕ, ◌+◌, ◌≤◌, List, [], ◌∷◌, length, map, Option, Some, None}
-use Rattle.std.specs.Prelude.{◌≢◌}
+use Rattle.std.proofs.Common.{◌≡◌, refl, sym, ◌∙◌, ap, subst, arith, ℕ, ◌+◌, List, [], ◌∷◌, length, Option}
 use Rattle.std.proofs.lemmas.List.{length-map}
 use Rattle.sample_key.specs.declared.losses.Pace.{Pace}
 use Rattle.trace_model.specs.Recording.{Recording}
 use Rattle.store_io.specs.Files.{Files}
 use Rattle.database_state.specs.Heads.{Head}
 use Rattle.lane_side.specs.Fixed.{Fixed}
-use Rattle.lane_side.specs.Plain.{Plain}
 use Rattle.shared_side.specs.Shown.{Shown}
-use Rattle.run_model.specs.Daemon.{Daemon, new_daemon}
+use Rattle.run_model.specs.Daemon.{new_daemon}
 use Rattle.lane_threads.specs.Pairs.{Pairwise}
 use Rattle.lane_threads.specs.Promising.{IsOfWork}
 use Rattle.lane_threads.specs.Starting.{AllStart, AreEndsOfOne}

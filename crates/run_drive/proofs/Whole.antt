@@ -1,6 +1,6 @@
 -- A whole run: what it answers, what is left where it could not begin, and that the exact pace counts plainly.
-use Rattle.std.proofs.Common.{◌≡◌, refl, sym, ◌∙◌, ap, subst, ℕ, ◌+◌, ◌≤◌, false, true, List, [], length, Option, Some, None, Ok, Err, inr}
-use Rattle.std.specs.Prelude.{◌≢◌, IfOk}
+use Rattle.std.proofs.Common.{◌≡◌, refl, sym, ◌∙◌, subst, ℕ, ◌+◌, false, List, [], length, Option, Some, None, Ok, Err, inr}
+use Rattle.std.specs.Prelude.{IfOk}
 use Rattle.std.specs.declared.result.Result.{Result}
 use Rattle.sample_key.specs.declared.losses.Pace.{Pace}
 use Rattle.sample_key.specs.declared.losses.Pace.TheVariants.{Exact}
@@ -10,7 +10,7 @@ use Rattle.database_model.specs.Runs.{Recorded}
 use Rattle.store_io.specs.Files.{Files}
 use Rattle.database_state.specs.Heads.{Head}
 use Rattle.database_state.specs.Limits.{IsProfile}
-use Rattle.database_state.specs.Standing.{HaveHead, database_of}
+use Rattle.database_state.specs.Standing.{database_of}
 use Rattle.database_state.specs.declared.faults.DbFault.{DbFault}
 use Rattle.database_state.specs.declared.faults.DbFault.TheVariants.{Memory}
 use Rattle.growth_laws.specs.Places.{PlainRecordsAddPlainly}

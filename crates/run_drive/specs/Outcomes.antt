@@ -1,5 +1,5 @@
 -- What a run of a trace by threads answers, and what it leaves of the database.
-use Rattle.std.specs.Prelude.{◌≡◌, ◌≢◌, ℕ, ◌+◌, ◌<◌, ◌≤◌, Bool, true, false, [], Option, Some, None, Ok, Err, count_by}
+use Rattle.std.specs.Prelude.{◌≡◌, ◌≢◌, ℕ, ◌+◌, Bool, true, false, [], Option, Some, None, Ok, Err, count_by}
 use Rattle.std.specs.declared.result.Result.{Result}
 use Rattle.sample_key.specs.declared.losses.Pace.{Pace}
 use Rattle.sample_key.specs.declared.losses.Pace.TheVariants.{Exact}

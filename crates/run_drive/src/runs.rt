@@ -4,7 +4,6 @@ ghost use Rattle.sample_key.specs.declared.losses.Pace.TheVariants.{Exact};
 ghost use Rattle.trace_cut.specs.Cutting.{lanes_in};
 ghost use Rattle.trace_model.specs.Streams.{records_in, streams_in};
 ghost use Rattle.trace_model.specs.Traces.{recording_of};
-ghost use Rattle.trace_outline.specs.Outlines.{outlined};
 ghost use Rattle.database_state.specs.Limits.{IsProfile};
 ghost use Rattle.database_state.specs.Standing.{database_of};
 ghost use Rattle.epoch_store.specs.Databases.{failed_of, head_of};
@@ -34,9 +33,8 @@ use std::sync::Wait;
 use std::thread;
 use std::thread::Threads;
 use store_io::Store;
-use trace_cut::{Streams, cut};
+use trace_cut::{Streams, cut_in_threads};
 use trace_model::{Record, Trace};
-use trace_outline::{Outline, outlines_are_fit};
 
 /// Where the daemon says at the gate that a round begins.
 pub const DAEMON_GATE: u32 = 16;
@@ -64,41 +62,15 @@ pub fn run<R: Threads + Wait + Sync, D: Store, G: Gate + Sync>(
 {
     traces_are_fit(trace);
     records_are_valid();
-    let Streams { lanes, records } = cut(alloc, trace)?;
-    let copied = Outline::copied(alloc, trace)?;
-    run_streams(rt, alloc, &copied, &records, lanes, db, store, pace, gate)
+    let Streams { lanes, records } = cut_in_threads(rt, alloc, trace)?;
+    run_streams(rt, alloc, trace, &records, lanes, db, store, pace, gate)
 }
 
-/// The same for a trace that is not used any more: its lines, 40 bytes each, are given back before the first thread starts.
-pub fn run_owned<R: Threads + Wait + Sync, D: Store, G: Gate + Sync>(
-    rt: &R,
-    alloc: Global,
-    trace: Trace,
-    db: Database,
-    store: &mut D,
-    pace: Pace,
-    gate: &G,
-) -> Result<Outcome, DbFault>
-    requires works { failed_of db ≡ None }
-    ensures run { IfOk result (IsRunOf pace (recording_of trace) (head_of db)) }
-    ensures leaves { LeavesRun D.files D.faults D.moment D.left_since pace
-        (recording_of trace) (head_of db) store.old store.new result }
-    ensures plain { pace ≡ Exact → IfOk result (GrowsPlainly D.files (recording_of trace)
-        (head_of db) store.old store.new) }
-    ensures origin { D.origin store.new ≡ D.origin store.old }
-{
-    traces_are_fit(&trace);
-    records_are_valid();
-    let Streams { lanes, records } = cut(alloc, &trace)?;
-    let outline = Outline::of(trace);
-    run_streams(rt, alloc, &outline, &records, lanes, db, store, pace, gate)
-}
-
-// The same, by the outline of the trace, its records and its samples.
+// The same, by the records and the samples of the trace.
 fn run_streams<'a, R: Threads + Wait + Sync, D: Store, G: Gate + Sync>(
     rt: &R,
     alloc: Global,
-    outline: &'a Outline,
+    trace: &'a Trace,
     records: &'a [Record],
     samples: Vec<Vec<Marked>>,
     db: Database,
@@ -106,23 +78,23 @@ fn run_streams<'a, R: Threads + Wait + Sync, D: Store, G: Gate + Sync>(
     pace: Pace,
     gate: &G,
 ) -> Result<Outcome, DbFault>
-    requires records { records.now ≡ records_in (outlined outline.now) }
-    requires samples { lanes_in samples.items ≡ streams_in (outlined outline.now) }
+    requires records { records.now ≡ records_in (recording_of trace.now) }
+    requires samples { lanes_in samples.items ≡ streams_in (recording_of trace.now) }
     requires works { failed_of db ≡ None }
-    ensures run { IfOk result (IsRunOf pace (outlined outline.now) (head_of db)) }
+    ensures run { IfOk result (IsRunOf pace (recording_of trace.now) (head_of db)) }
     ensures leaves { LeavesRun D.files D.faults D.moment D.left_since pace
-        (outlined outline.now) (head_of db) store.old store.new result }
-    ensures plain { pace ≡ Exact → IfOk result (GrowsPlainly D.files (outlined outline.now)
+        (recording_of trace.now) (head_of db) store.old store.new result }
+    ensures plain { pace ≡ Exact → IfOk result (GrowsPlainly D.files (recording_of trace.now)
         (head_of db) store.old store.new) }
     ensures origin { D.origin store.new ≡ D.origin store.old }
 {
-    outlines_are_fit(outline);
+    traces_are_fit(trace);
     records_are_valid();
     laws();
-    let Pairs { works, sides } = new_pairs(alloc, outline, pace, records.len(), samples)?;
+    let Pairs { works, sides } = new_pairs(alloc, trace, pace, records.len(), samples)?;
     let rooms = Rooms::of(alloc, sides.len())?;
     let waiting = all_waiting(alloc, works)?;
-    let daemon = Daemon::new(alloc, outline, records, pace, db)?;
+    let daemon = Daemon::new(alloc, trace, records, pace, db)?;
     let (result, back) = thread::scope(
         thread::scope_env(),
         rt,

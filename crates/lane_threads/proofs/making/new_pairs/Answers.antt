@@ -2,7 +2,7 @@
 use Rattle.std.proofs.Common.{rules, ◌≡◌, ◌∷◌, length, ap, arith}
 use Rattle.std.proofs.lemmas.List.{length_push}
 use Rattle.std.specs.Vec.Iter.{into_iter_items}
-use Rattle.trace_outline.specs.Outlines.{outlined}
+use Rattle.trace_model.specs.Traces.{recording_of}
 use Rattle.trace_model.specs.Streams.{stream_of}
 use Rattle.lane_threads.proofs.Starting.{starts_more, streams_step, streams_left}
 use Rattle.lane_threads.proofs.making.new_pairs.Goals as goal
@@ -11,19 +11,19 @@ pub unreachable-requires : goal.unreachable-requires
 unreachable-requires c =
     let empty = rw c.in_default.is at c.next.ensures.cases in
     let none : length (into_iter_items c.loop-cpu.streams) ≡ 0 = omega (arith, c.loop-cpu.streams.rest.ok.0) in
-    streams_left (λ cpu. stream_of cpu (outlined c.args.outline.now)) c.loop-cpu.cpu c.args.outline.now.cpus _ c.loop-cpu.invariant.streams c.loop-cpu-test.true none
+    streams_left (λ cpu. stream_of cpu (recording_of c.args.trace.now)) c.loop-cpu.cpu c.args.trace.now.cpus _ c.loop-cpu.invariant.streams c.loop-cpu-test.true none
 
 pub new_pair-requires-clause-samples : goal.new_pair-requires-clause-samples
 new_pair-requires-clause-samples c =
     let left : into_iter_items c.loop-cpu.streams ≡ c.in-Some.samples ∷ into_iter_items c.next.new.self = search rules in
-    (streams_step (λ cpu. stream_of cpu (outlined c.args.outline.now)) c.loop-cpu.cpu c.args.outline.now.cpus _ _ _ c.loop-cpu.invariant.streams c.loop-cpu-test.true left).0
+    (streams_step (λ cpu. stream_of cpu (recording_of c.args.trace.now)) c.loop-cpu.cpu c.args.trace.now.cpus _ _ _ c.loop-cpu.invariant.streams c.loop-cpu-test.true left).0
 
 pub loop-cpu-preserved : goal.loop-cpu-preserved
 loop-cpu-preserved c =
     let h = c.loop-cpu.invariant in
     let left : into_iter_items c.loop-cpu.streams ≡ c.in-Some.samples ∷ into_iter_items c.next.new.self = search rules in
     record {
-      streams = (streams_step (λ cpu. stream_of cpu (outlined c.args.outline.now)) c.loop-cpu.cpu c.args.outline.now.cpus _ _ _ h.streams c.loop-cpu-test.true left).1;
+      streams = (streams_step (λ cpu. stream_of cpu (recording_of c.args.trace.now)) c.loop-cpu.cpu c.args.trace.now.cpus _ _ _ h.streams c.loop-cpu-test.true left).1;
       count = omega (arith, ap length c.in_ok-push.ensures.items, length_push c.loop-cpu.pairs.works.items c.in_ok-work.work);
       start = starts_more _ _ c.loop-cpu.cpu _ _ _ _ _ _ c.in_ok-push.ensures.items c.in_ok-push-2.ensures.items h.start h.count c.in_ok-work.ensures;
     }

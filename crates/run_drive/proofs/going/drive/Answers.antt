@@ -1,5 +1,5 @@
 -- Each round keeps what the rounds before it left, and the last one finishes the run.
-use Rattle.std.proofs.Common.{sym, ◌∙◌, ap, subst, List}
+use Rattle.std.proofs.Common.{sym, ◌∙◌, subst, List}
 use Rattle.std.proofs.lemmas.List.{with_items_is}
 use Rattle.shared_side.specs.Shown.{Shown}
 use Rattle.daemon_rounds.specs.Going.{IsGoing, IsOver}

@@ -5,7 +5,7 @@ use Rattle.lane_threads.specs.Promising.{Runs}
 use Rattle.lane_threads.specs.Working.{Working}
 use Rattle.daemon_rounds.specs.Sides.{AreIdle}
 use Rattle.daemon_rounds.specs.Storing.{StopsEarly}
-use Rattle.run_drive.specs.Running.{IsUnderWay, plain_sides}
+use Rattle.run_drive.specs.Running.{plain_sides}
 use Rattle.run_drive.proofs.Driving.{GoesSince}
 use Rattle.run_drive.proofs.going.drive.Given as goal
 

@@ -9,8 +9,3 @@ pub returns-in_err-lanes-clause-leaves : goal.returns-in_err-lanes-clause-leaves
 returns-in_err-lanes-clause-leaves g c =
     let p = err_from_is_err_and c.from_residual.result c.from_residual.ensures.1 in
     rw (p.1, p.2) (none_begun g.D.Store.files g.D.Store.faults g.D.Store.moment g.D.Store.left_since c.records_are_valid.ensures.so_far c.args.pace (recording_of c.args.trace.now) (head_of c.args.db) c.args.store.now c.traces_are_fit.ensures)
-
-pub returns-in_err-copied-clause-leaves : goal.returns-in_err-copied-clause-leaves
-returns-in_err-copied-clause-leaves g c =
-    let p = err_from_is_err_and c.from_residual-in_err-copied.result c.from_residual-in_err-copied.ensures.1 in
-    rw (p.1, p.2) (none_begun g.D.Store.files g.D.Store.faults g.D.Store.moment g.D.Store.left_since c.records_are_valid.ensures.so_far c.args.pace (recording_of c.args.trace.now) (head_of c.args.db) c.args.store.now c.traces_are_fit.ensures)
