@@ -642,7 +642,8 @@ impl Progress {
     ) -> Result<RunRecord, DbFault>
         requires task { IsTask task.now }
         requires sound { IsSound task.now self }
-        requires losses { AreLossesOf (viewed task.now.trace).cpus (map (λ v. v.items) losses.items) }
+        requires losses { AreLossesOf (viewed task.now.trace).cpus
+            (map (λ v. v.items) losses.items) }
         ensures finishes { Finishes D.files D.faults D.moment D.left_since
             (collection_of task.now self) (map (λ v. v.items) losses.items) self.failure store.old
             result store.new }
