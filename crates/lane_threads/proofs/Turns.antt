@@ -2,14 +2,25 @@
 use Rattle.std.proofs.Common.{◌≡◌, ℕ, zero, suc, List, [], ◌∷◌, ◌++◌, length, slice_set, slice_index_or, refl, ap, sym, subst, ◌∙◌}
 use Rattle.driver_model.specs.Driver.{Setup, Words, World, turn_of}
 use Rattle.driver_model.specs.declared.answers.Turn.{Turn}
+use Rattle.driver_model.specs.declared.answers.Turn.TheVariants.{Took, Lost, Held, Answered, Idle, Done}
 use Rattle.lane_threads.specs.Pairs.{Pairwise}
 use Rattle.lane_threads.specs.Promising.{Runs, TookStep}
-use Rattle.lane_threads.specs.Working.{Working, IsSame, IsLater, IsEnded, TookTurn, after_turns, world_in}
+use Rattle.lane_threads.specs.Working.{Working, IsSame, IsLater, IsEnded, TookTurn, after_turns, next_after, world_in}
 use Rattle.lane_threads.specs.declared.runners.Runner.{Runner}
+use Rattle.lane_threads.specs.declared.works.Next.TheVariants.{End}
 use Rattle.lane_threads.specs.declared.runners.Runner.TheVariants.{Away, Here}
 use Rattle.lane_threads.proofs.Pairing.{pairs_then}
 
 -- ---- turns
+
+-- the end follows none but the answered close
+pub end_is_done : (answer : Turn) → next_after answer ≡ End → answer ≡ Done
+end_is_done Took e = cc
+end_is_done (Lost loss) e = cc
+end_is_done Answered e = cc
+end_is_done Held e = cc
+end_is_done Idle e = cc
+end_is_done Done e = refl
 
 -- the driver and the side after one turn
 abbrev pub after_one : Setup → Words → World → World

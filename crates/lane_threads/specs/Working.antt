@@ -3,11 +3,14 @@ use Rattle.std.specs.Prelude.{◌≡◌, ◌≤◌, true, false, List, [], ◌�
 use Rattle.driver_model.specs.Driver.{Setup, Words, World, turn_of}
 use Rattle.driver_model.specs.Invariant.{DriverInvariant}
 use Rattle.driver_model.specs.declared.answers.Turn.{Turn}
+use Rattle.driver_model.specs.declared.answers.Turn.TheVariants.{Took, Lost, Held, Answered, Idle, Done}
 use Rattle.driver_laws.specs.Causes.{CauseOf}
 use Rattle.cpu_lane.specs.Ready.{IsSideOf, HeardBy}
 use Rattle.cpu_lane.specs.Seen.{Seen}
 use Rattle.cpu_lane.specs.Steps.{Gives}
 use Rattle.shared_side.specs.Shown.{Shown}
+use Rattle.lane_threads.specs.declared.works.Next.{Next}
+use Rattle.lane_threads.specs.declared.works.Next.TheVariants.{End, Rest, GoOn}
 
 -- a lane and its side
 pub record Working : Type 0 where
@@ -42,6 +45,20 @@ pub record TookTurn (before : Working) (answer : Turn) (after : Working) : Type 
       HeardBy before.side.fixed before.side.far after.side.seen.heard
   pub cause : CauseOf before.lane.setup before.lane.driver before.side.seen after.side.seen answer
   pub same : IsSame before after
+
+-- what follows a turn with this answer
+abbrev pub next_after : Turn → Next
+next_after Took = GoOn
+next_after (Lost loss) = GoOn
+next_after Answered = GoOn
+next_after Held = Rest
+next_after Idle = Rest
+next_after Done = End
+
+-- The lane took one turn, and this follows its answer.
+abbrev pub Turned : Working → Next → Working → Type 0
+Turned before next after =
+    (answer : Turn) × TookTurn before answer after × (next ≡ next_after answer)
 
 -- the driver and the side after turns over these words, of which the last turn's stand first
 abbrev pub after_turns : Setup → List Words → World → World

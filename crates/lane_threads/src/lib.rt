@@ -15,4 +15,4 @@ pub use making::{Pairs, new_pair, new_pairs};
 pub use runners::{Runner, end_all, start_all, step_here};
 pub use starts::Waiting;
 pub use threads::all_waiting;
-pub use works::Work;
+pub use works::{Next, Work};

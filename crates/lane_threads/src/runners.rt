@@ -92,7 +92,7 @@ fn step_one(runner: &mut Runner)
     match runner {
         Runner::Away(_) => {}
         Runner::Here(work) => {
-            let _answer = work.turn();
+            let _next = work.turn();
         }
     }
 }

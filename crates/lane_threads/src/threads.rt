@@ -6,8 +6,7 @@ ghost use Rattle.lane_threads.specs.Promising.{IsOfWork};
 ghost use Rattle.lane_threads.specs.Working.{IsEnded};
 
 use crate::starts::{Start, StartKey, Waiting};
-use crate::works::Work;
-use cpu_lane::Turn;
+use crate::works::{Next, Work};
 use crossbeam_utils::Backoff;
 use outside_io::Gate;
 use std::alloc::{AllocError, Global};
@@ -75,12 +74,9 @@ pub(crate) fn take_turns<R: Wait, G: Gate>(rt: &R, gate: &G, work: Work) -> Work
     for _ in rt.forever() {
         gate.at(work.cpu);
         match work.turn() {
-            Turn::Done => return work,
-            Turn::Held => backoff.snooze(),
-            Turn::Idle => backoff.snooze(),
-            Turn::Took => backoff.reset(),
-            Turn::Lost(_) => backoff.reset(),
-            Turn::Answered => backoff.reset(),
+            Next::End => return work,
+            Next::Rest => backoff.snooze(),
+            Next::GoOn => backoff.reset(),
         }
     }
     unreachable!()
