@@ -4,9 +4,8 @@ use Rattle.sample_key.specs.declared.keys.Marked.{Marked}
 use Rattle.sample_key.specs.Marks.{RisesFrom, MarksUpTo}
 use Rattle.trace_model.specs.declared.notices.Line.{Line}
 use Rattle.trace_model.specs.declared.notices.Line.TheVariants.{Sample, Rec}
-use Rattle.trace_model.specs.declared.recordings.Trace.{Trace}
+use Rattle.trace_model.specs.Recording.{Recording}
 use Rattle.trace_model.specs.Streams.{stream_from, records_from, samples_from, stream_of, records_in, IsStream}
-use Rattle.trace_model.specs.Traces.{recording_of}
 use Rattle.trace_laws.specs.Kept.{KeepsLimits}
 
 -- marks that rise from one number rise from each below it
@@ -42,9 +41,9 @@ few_samples cpu mark [] = omega arith
 few_samples cpu mark (Sample other key ∷ lines) = omega (arith, few_by (nat_eq other cpu) (record { key = key; mark = mark }) (stream_from cpu mark lines) (length (samples_from lines)) (few_samples cpu mark lines))
 few_samples cpu mark (Rec notice ∷ lines) = few_samples cpu (mark + 1) lines
 
-pub is_stream : (t : Trace) → KeepsLimits (recording_of t) → (cpu : ℕ) → IsStream (length (records_in (recording_of t))) (stream_of cpu (recording_of t))
-is_stream t limits cpu = record {
-  rising = rises cpu 0 t.lines.items;
-  marks = upto cpu 0 (length (records_from t.lines.items)) t.lines.items (omega arith);
-  few = omega (arith, few_samples cpu 0 t.lines.items, limits.samples);
+pub is_stream : (r : Recording) → KeepsLimits r → (cpu : ℕ) → IsStream (length (records_in r)) (stream_of cpu r)
+is_stream r limits cpu = record {
+  rising = rises cpu 0 r.lines;
+  marks = upto cpu 0 (length (records_from r.lines)) r.lines (omega arith);
+  few = omega (arith, few_samples cpu 0 r.lines, limits.samples);
 }

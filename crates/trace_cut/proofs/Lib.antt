@@ -1,3 +1,2 @@
 pub mod Bounding
-pub mod Each
-pub mod Joining
+pub mod Taking

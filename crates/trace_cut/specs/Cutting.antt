@@ -1,12 +1,11 @@
--- What one line of a trace adds to the streams.
-use Rattle.std.specs.Prelude.{◌≡◌, Vec, ℕ, List, [], ◌∷◌, ◌++◌, length, map, slice_set, slice_get, unwrap_or}
+-- The streams of a trace, and those of its first lines.
+use Rattle.std.specs.Prelude.{◌≡◌, Vec, ℕ, List, length, map}
 use Rattle.std.specs.List.{range_with_len}
 use Rattle.sample_key.specs.declared.keys.Marked.{Marked}
 use Rattle.trace_model.specs.declared.notices.Record.{Record}
 use Rattle.trace_model.specs.declared.notices.Line.{Line}
-use Rattle.trace_model.specs.declared.notices.Line.TheVariants.{Sample, Rec}
 use Rattle.trace_model.specs.Recording.{Recording}
-use Rattle.trace_model.specs.Streams.{IsStream, records_in, stream_of}
+use Rattle.trace_model.specs.Streams.{IsStream, records_from, records_in, stream_from, stream_of}
 
 -- each processor's samples are a stream: marks never fall and are at most the number of records
 abbrev pub HasStreams : Recording → Type 0
@@ -16,20 +15,16 @@ HasStreams r = (cpu : ℕ) → IsStream (length (records_in r)) (stream_of cpu r
 abbrev pub lanes_in : {A : Type 0} → List (Vec Marked A) → List (List Marked)
 lanes_in lanes = map (λ lane. lane.items) lanes
 
--- no samples, for each of so many processors
-abbrev pub empty_lanes : ℕ → List (List Marked)
-empty_lanes cpus = map (λ cpu. []) (range_with_len 0 cpus)
+-- the samples in these lines of each of so many processors, from 0 on
+abbrev pub streams_from : ℕ → List Line → List (List Marked)
+streams_from cpus lines = map (λ cpu. stream_from cpu 0 lines) (range_with_len 0 cpus)
 
--- a sample is put last in its processor's stream, with the number of records before it
-abbrev pub lanes_with : List (List Marked) → ℕ → Line → List (List Marked)
-lanes_with lanes mark (Sample cpu key) = slice_set lanes cpu (unwrap_or (slice_get lanes cpu) [] ++ record { key = key; mark = mark } ∷ [])
-lanes_with lanes mark (Rec notice) = lanes
+-- the lines so far, and for how many processors they are cut
+pub record SoFar : Type 0 where
+  pub lines : List Line
+  pub cpus : ℕ
 
--- a record is put last
-abbrev pub records_with : List Record → Line → List Record
-records_with records (Sample cpu key) = records
-records_with records (Rec notice) = records ++ notice ∷ []
-
--- a line adds to the lists of samples, where these records stand before it
-abbrev pub Adds : {A : Type 0} → List (Vec Marked A) → List (Vec Marked A) → List Record → Line → Type 0
-Adds before after records line = lanes_in after ≡ lanes_with (lanes_in before) (length records) line
+-- these are the streams of these lines
+pub record AreCut {A : Type 0} (lanes : List (Vec Marked A)) (records : List Record) (lines : List Line) : Type 0 where
+  pub lanes_are : lanes_in lanes ≡ streams_from (length lanes) lines
+  pub records_are : records ≡ records_from lines

@@ -4,8 +4,6 @@
 
 mod laws;
 mod streams;
-mod threads;
 
 pub use laws::streams_are_in_order;
-pub use streams::{Streams, cut};
-pub use threads::cut_in_threads;
+pub use streams::{Cutter, Streams, cut};
