@@ -1,4 +1,4 @@
--- What every trace keeps, from its own facts.
+-- What every trace keeps whose lines are good.
 use Rattle.std.proofs.Common.{◌≡◌, ℕ, ◌+◌, ◌≤◌, ◌||◌, ◌==◌, ◌^◌, Bool, true, false, cond, List, [], ◌∷◌, ◌++◌, length, map, leb, refl, sym, ap, subst, ◌∙◌, arith}
 use Rattle.std.specs.List.{AllByRecursion, count_by, list_any}
 use Rattle.std.proofs.lemmas.Bool.{and_parts, and_from, leb-true, leb-false, false≢true, eqb-true}
@@ -11,12 +11,10 @@ use Rattle.trace_model.specs.declared.notices.Line.{Line}
 use Rattle.trace_model.specs.declared.notices.Line.TheVariants.{Sample, Rec}
 use Rattle.trace_model.specs.declared.notices.Step.{Step}
 use Rattle.trace_model.specs.declared.notices.Step.TheVariants.{Lane, Poll, Advance}
-use Rattle.trace_model.specs.declared.recordings.Trace.{Trace}
 use Rattle.trace_model.specs.Said.{Said, LongHeader, Ended, every, tested, is_within, is_aligned, is_sample, is_record, is_step, is_part_end, is_table_size}
 use Rattle.trace_model.specs.Parts.{ends_part}
 use Rattle.trace_model.specs.Recording.{Recording, are_good, is_named, keeps_ranges, line_said, record_said, said_in, step_said}
 use Rattle.trace_model.specs.Streams.{names_below, records_from, samples_from, steps_below}
-use Rattle.trace_model.specs.Traces.{recording_of}
 use Rattle.trace_laws.specs.Kept.{HasSizes, KeepsLimits, KeepsRanges, NamesProcessors}
 use Rattle.trace_laws.proofs.Passing.{Passes, all_within, first_passes, rest_is_good, parts_limited, records_limited, samples_limited, steps_limited}
 
@@ -83,9 +81,6 @@ limits_of r good =
       steps = omega (arith, as_many_steps r.schedule, more is_step Ended steps, behind is_step lines (Ended ∷ steps), more is_step header (lines ++ Ended ∷ steps), all_within is_step MOST_STEPS steps_limited (said_in r) good);
     }
 
-pub limits : (t : Trace) → KeepsLimits (recording_of t)
-limits t = limits_of (recording_of t) t.good
-
 -- the sizes of the header
 
 abbrev IsSize : ℕ → Type 0
@@ -112,10 +107,10 @@ header_sizes cpus buckets buffer h =
     let buffer_is = and_parts (leb 1 buffer) (leb buffer MOST_ENTRIES) others.1 in
     (leb-true 1 cpus cpus_are.0, leb-true cpus MOST_CPUS cpus_are.1, is_some_size buckets others.0, leb-true 1 buffer buffer_is.0, leb-true buffer MOST_ENTRIES buffer_is.1)
 
-pub sizes : (t : Trace) → HasSizes (recording_of t)
-sizes t =
-    let header : Said ℕ = LongHeader t.cpus t.buckets t.buffer in
-    let p = header_sizes t.cpus t.buckets t.buffer (first_passes [] header (map (line_said t.images.items) t.lines.items ++ Ended ∷ map step_said t.schedule.items) t.good).within in
+pub sizes_of : (r : Recording) → are_good [] (said_in r) ≡ true → HasSizes r
+sizes_of r good =
+    let header : Said ℕ = LongHeader r.cpus r.buckets r.buffer in
+    let p = header_sizes r.cpus r.buckets r.buffer (first_passes [] header (map (line_said r.images) r.lines ++ Ended ∷ map step_said r.schedule) good).within in
     record { some_cpus = p.0; cpus = p.1; some_buckets = p.2.0; buckets = p.2.1; some_entries = p.3; entries = p.4 }
 
 -- the ranges of the records
@@ -145,12 +140,12 @@ records_of before rest images (Rec notice ∷ lines) h =
     ((keeps before images notice first, others.0), (first.titled, others.1))
 
 -- what stands behind the header of a trace
-body_is_good : (t : Trace) → are_good (LongHeader t.cpus t.buckets t.buffer ∷ []) (map (line_said t.images.items) t.lines.items ++ Ended ∷ map step_said t.schedule.items) ≡ true
-body_is_good t = rest_is_good [] (LongHeader t.cpus t.buckets t.buffer) (map (line_said t.images.items) t.lines.items ++ Ended ∷ map step_said t.schedule.items) t.good
+body_is_good : (r : Recording) → are_good [] (said_in r) ≡ true → are_good (LongHeader r.cpus r.buckets r.buffer ∷ []) (map (line_said r.images) r.lines ++ Ended ∷ map step_said r.schedule) ≡ true
+body_is_good r good = rest_is_good [] (LongHeader r.cpus r.buckets r.buffer) (map (line_said r.images) r.lines ++ Ended ∷ map step_said r.schedule) good
 
-pub ranges : (t : Trace) → KeepsRanges (recording_of t)
-ranges t =
-    let p = records_of (LongHeader t.cpus t.buckets t.buffer ∷ []) (Ended ∷ map step_said t.schedule.items) t.images.items t.lines.items (body_is_good t) in
+pub ranges_of : (r : Recording) → are_good [] (said_in r) ≡ true → KeepsRanges r
+ranges_of r good =
+    let p = records_of (LongHeader r.cpus r.buckets r.buffer ∷ []) (Ended ∷ map step_said r.schedule) r.images r.lines (body_is_good r good) in
     record { ranges = p.0; names = p.1 }
 
 -- the processors of samples and steps
@@ -179,5 +174,5 @@ all_lines cpus buckets buffer before images (line ∷ lines) steps h =
     let rest = all_lines cpus buckets buffer (before ++ line_said images line ∷ []) images lines steps (rest_is_good (LongHeader cpus buckets buffer ∷ before) (line_said images line) (map (line_said images) lines ++ Ended ∷ map step_said steps) h) in
     ((sample_below cpus buckets buffer before images line (first_passes (LongHeader cpus buckets buffer ∷ before) (line_said images line) (map (line_said images) lines ++ Ended ∷ map step_said steps) h), rest.0), rest.1)
 
-pub processors : (t : Trace) → NamesProcessors (recording_of t)
-processors t = let p = all_lines t.cpus t.buckets t.buffer [] t.images.items t.lines.items t.schedule.items (body_is_good t) in record { samples = p.0; steps = p.1 }
+pub processors_of : (r : Recording) → are_good [] (said_in r) ≡ true → NamesProcessors r
+processors_of r good = let p = all_lines r.cpus r.buckets r.buffer [] r.images r.lines r.schedule (body_is_good r good) in record { samples = p.0; steps = p.1 }

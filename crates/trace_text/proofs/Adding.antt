@@ -18,7 +18,7 @@ use Rattle.trace_text.specs.declared.body.Body.{Body}
 use Rattle.trace_text.specs.Judging.{size_shown}
 use Rattle.trace_model.specs.Parts.{ends_part}
 use Rattle.trace_text.specs.Entries.{record_may_precede_scan}
-use Rattle.trace_text.specs.State.{IsSound, Tracks, said_in_body, index_from, is_among, line_is_among}
+use Rattle.trace_text.specs.State.{IsSound, Tracks, frame_of, said_in_body, index_from, is_among, line_is_among}
 use Rattle.trace_text.specs.Taking.{Names, NamesImage, PushesRecord, PushesSample, IsIndexed}
 use Rattle.std.specs.Ordering.{is_eq}
 use Rattle.trace_text.proofs.Index.{found, absent, tied_push, with_known, with_new, last_named}
@@ -65,7 +65,7 @@ track_as said said' images a a' b b' c c' d d' p q r s t h = coe 0 1 (i. Tracks 
 
 -- a record was added
 pub record_added : (old mid new : Body) (said : Said ℕ) (notice : Record) → IsSound old → Names old mid said notice → PushesRecord mid new notice → first_that_applies (value_tests (said_in_body old) said) ≡ None
-    → IsSound new × (new.sizes ≡ old.sizes) × (said_in_body new ≡ said_in_body old ++ said ∷ [])
+    → IsSound new × (frame_of new ≡ frame_of old) × (said_in_body new ≡ said_in_body old ++ said ∷ [])
 record_added old mid new said notice s n p passes =
     let images : new.images.items ≡ mid.images.items = ap (λ v. v.items) p.images in
     let says : record_said new.images.items notice ≡ said = ap (λ l. record_said l notice) images ∙ n.says in
@@ -94,13 +94,13 @@ record_added old mid new said notice s n p passes =
             ∙ and_from _ _ (lines_among_more (length old.images.items) (length new.images.items) old.lines.items before.1 s.among) (ap (λ l. is_among (length l) notice) images ∙ n.among);
         lines_are = ap length lines ∙ omega (arith, length-append old.lines.items (Rec notice ∷ []), s.lines_are, p.samples, n.kept.samples, p.records, n.kept.records);
       },
-      p.sizes ∙ n.kept.sizes,
+      (λ i. ((p.sizes ∙ n.kept.sizes) i, (p.cpus ∙ ap (λ v. v.cpus) n.kept.lines) i)),
       whole,
     )
 
 -- a sample was added
 pub sample_added : (old new : Body) (cpu pid pc : ℕ) (event : Event) → IsSound old → PushesSample old new (Sampled cpu pid pc event) → first_that_applies (value_tests (said_in_body old) (Sampled cpu pid pc event)) ≡ None
-    → IsSound new × (new.sizes ≡ old.sizes) × (said_in_body new ≡ said_in_body old ++ Sampled cpu pid pc event ∷ [])
+    → IsSound new × (frame_of new ≡ frame_of old) × (said_in_body new ≡ said_in_body old ++ Sampled cpu pid pc event ∷ [])
 sample_added old new cpu pid pc event s p passes =
     let images : new.images.items ≡ old.images.items = ap (λ v. v.items) p.images in
     let line = p.lines.0 in
@@ -120,7 +120,7 @@ sample_added old new cpu pid pc event s p passes =
             ∙ and_from _ _ (ap (λ l. list_all (line_is_among (length l)) old.lines.items) images ∙ s.among) (p.lines.3 (length new.images.items));
         lines_are = ap length lines ∙ omega (arith, length-append old.lines.items (line ∷ []), s.lines_are, p.samples, p.records);
       },
-      p.sizes,
+      (λ i. (p.sizes i, p.cpus i)),
       whole,
     )
 

@@ -11,7 +11,7 @@ use Rattle.trace_text.specs.declared.headers.Sizes.{Sizes}
 use Rattle.trace_text.specs.declared.input.Input.{Input}
 use Rattle.trace_text.specs.declared.reading.TheConstants.{MOST_BODY_LINES}
 use Rattle.trace_text.specs.Judging.{size_shown}
-use Rattle.trace_text.specs.State.{IsSound, AreSteps, said_in_body, said_with_steps}
+use Rattle.trace_text.specs.State.{IsSound, AreSteps, frame_of, said_in_body, said_with_steps}
 use Rattle.trace_text.specs.Progress.{Went}
 
 -- the input that is left: what was read ahead, and what the source still has
@@ -33,7 +33,7 @@ ReadsSchedule old new body steps = (count : ℕ) × Went old new (said_with_step
 
 -- a line of the body was read, or the end
 abbrev pub StepsBody : Taken → Option (List ℕ) → Option (List ℕ) → Body → Body → Type 0
-StepsBody kinds.Line left rest old new = IsSound new × (new.sizes ≡ old.sizes) × Went left rest (said_in_body old) (said_in_body new) 1
+StepsBody kinds.Line left rest old new = IsSound new × (frame_of new ≡ frame_of old) × Went left rest (said_in_body old) (said_in_body new) 1
 StepsBody kinds.End left rest old new = (new ≡ old) × Went left rest (said_in_body old) (said_in_body old ++ Ended ∷ []) 1
 
 -- a line of the schedule was read, or the end of the input

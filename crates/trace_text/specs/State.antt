@@ -19,6 +19,7 @@ use Rattle.trace_model.specs.declared.reasons.TraceWhy.{TraceWhy}
 use Rattle.trace_model.specs.Grammar.{context_tests, first_that_applies, value_tests}
 use Rattle.trace_model.specs.Recording.{Recording, said_in, line_said, step_said, images_in_order, are_good}
 use Rattle.trace_text.specs.declared.body.Body.{Body}
+use Rattle.trace_text.specs.declared.headers.Sizes.{Sizes}
 use Rattle.trace_text.specs.Judging.{size_shown}
 
 -- nothing is wrong with a line's values, after what the lines before it said
@@ -37,7 +38,15 @@ HasItsImages r = r.images ≡ images_in_order (said_in r)
 abbrev pub said_in_body : Body → List (Said ℕ)
 said_in_body b = size_shown b.sizes ∷ map (line_said b.images.items) b.lines.items
 
--- the same with the end and the steps behind it
+-- what no line of the body changes: the sizes, and for how many processors the lines are cut, where they are
+abbrev pub frame_of : Body → Sizes × Option ℕ
+frame_of b = (b.sizes, b.lines.cpus)
+
+-- for how many processors lines are to be cut, where they are
+abbrev pub cut_for : Bool → ℕ → Option ℕ
+cut_for cuts cpus = if cuts then Some cpus else None
+
+-- the header and the body, with the end and the steps behind it
 abbrev pub said_with_steps : Body → List Step → List (Said ℕ)
 said_with_steps b steps = said_in_body b ++ Ended ∷ map step_said steps
 

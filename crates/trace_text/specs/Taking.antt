@@ -17,14 +17,14 @@ use Rattle.trace_text.specs.declared.body.Body.{Body}
 use Rattle.trace_text.specs.declared.body.Taken.{Taken}
 use Rattle.trace_text.specs.declared.body.Taken.TheVariants as kinds
 use Rattle.trace_text.specs.Forms.{BodyValues, values_shown}
-use Rattle.trace_text.specs.State.{IsSound, said_in_body, index_from, is_among, line_is_among}
+use Rattle.trace_text.specs.State.{IsSound, frame_of, said_in_body, index_from, is_among, line_is_among}
 use Rattle.trace_model.specs.Parts.{ends_part}
 use Rattle.trace_text.specs.Entries.{record_may_precede_scan}
 use Rattle.trace_text.specs.Progress.{SaysNext}
 
 -- a line of the body was taken, or the end
 abbrev pub TakesLine : Taken → Body → List ℕ → Body → Type 0
-TakesLine kinds.Line old line new = IsSound new × (new.sizes ≡ old.sizes) × SaysNext (said_in_body old) line (said_in_body new)
+TakesLine kinds.Line old line new = IsSound new × (frame_of new ≡ frame_of old) × SaysNext (said_in_body old) line (said_in_body new)
 TakesLine kinds.End old line new = (new ≡ old) × SaysNext (said_in_body old) line (said_in_body old ++ Ended ∷ [])
 
 -- a line that is a good sample's was taken, or nothing
@@ -33,7 +33,7 @@ TakesSample true old line new = TakesLine kinds.Line old line new
 TakesSample false old line new = new ≡ old
 
 abbrev pub Adds : Taken → Body → Said ℕ → Body → Type 0
-Adds kinds.Line old said new = IsSound new × (new.sizes ≡ old.sizes) × (said_in_body new ≡ said_in_body old ++ said ∷ [])
+Adds kinds.Line old said new = IsSound new × (frame_of new ≡ frame_of old) × (said_in_body new ≡ said_in_body old ++ said ∷ [])
 Adds kinds.End old said new = (new ≡ old) × (said ≡ Ended)
 
 -- what was judged of a line
@@ -72,6 +72,7 @@ pub record PushesRecord (old new : Body) (notice : Record) : Type 0 where
   pub sizes : new.sizes ≡ old.sizes
   pub images : new.images ≡ old.images
   pub index : new.index ≡ old.index
+  pub cpus : new.lines.cpus ≡ old.lines.cpus
   pub lines : new.lines.items ≡ old.lines.items ++ Rec notice ∷ []
   pub samples : new.samples ≡ old.samples
   pub records : new.records ≡ old.records + 1
@@ -82,6 +83,7 @@ pub record PushesSample (old new : Body) (said : Said ℕ) : Type 0 where
   pub sizes : new.sizes ≡ old.sizes
   pub images : new.images ≡ old.images
   pub index : new.index ≡ old.index
+  pub cpus : new.lines.cpus ≡ old.lines.cpus
   pub lines : (line : Line) × (new.lines.items ≡ old.lines.items ++ line ∷ []) × ((images : List (List ℕ)) → line_said images line ≡ said) × ((n : ℕ) → line_is_among n line ≡ true)
   pub samples : new.samples ≡ old.samples + 1
   pub records : new.records ≡ old.records

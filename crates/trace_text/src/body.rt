@@ -25,6 +25,7 @@ use std::cmp::Ordering;
 use std::collections::BTreeMap;
 use std::collections::btree_map::Comparable;
 use text_num::Name;
+use trace_lines::{CutTrace, Lines, Outline};
 use trace_model::{Line, MOST_PARTS, MOST_RECORDS, Record, Step, Trace, TraceWhy};
 
 /// The sizes and the body of a trace, as far as it was read.
@@ -37,7 +38,7 @@ pub struct Body {
     /// The index of each image, by its name.
     index: BTreeMap<Name, u32>,
     /// The samples and records.
-    pub lines: Vec<Line>,
+    pub lines: Lines,
     /// How many of the lines are samples.
     samples: u64,
     /// How many of the lines are records.
@@ -62,27 +63,29 @@ impl Body {
     ghost use Rattle.trace_model.specs.Recording.{said_in};
     ghost use Rattle.trace_model.specs.Said.{KernelMapped, every, tested, is_titled};
     ghost use Rattle.trace_model.specs.Traces.{recording_of};
+    ghost use Rattle.trace_lines.specs.Outlines.{outlined};
     ghost use Rattle.trace_text.specs.Forms.{body_shown, notice_values, sample_values, values_shown};
     ghost use Rattle.trace_text.specs.Judging.{size_shown};
     ghost use Rattle.trace_text.specs.Progress.{IsRefusal};
     ghost use Rattle.trace_text.specs.Sampling.{IsGoodSample};
-    ghost use Rattle.trace_text.specs.State.{AreSteps, HasItsImages, IsSound, said_in_body, said_with_steps};
+    ghost use Rattle.trace_text.specs.State.{AreSteps, HasItsImages, IsSound, frame_of, said_in_body, said_with_steps};
     ghost use Rattle.trace_text.specs.Taking.{Adds, IsIndexed, IsJudged, Names, NamesImage, PushesRecord};
     ghost use Rattle.trace_text.specs.Taking.{PushesSample, TakesLine, TakesSample};
     ghost use Rattle.trace_text.specs.Faults.{part_fault, record_fault, sample_fault, scan_fault};
 
-    /// The body that stands behind a header, before its first line.
-    pub fn new(alloc: Global, sizes: Sizes) -> Body
-        requires { Passes [] (size_shown sizes) }
+    /// The body that stands behind a header, before its first line, which these lines are to keep.
+    pub fn new(alloc: Global, sizes: Sizes, lines: Lines) -> Body
+        requires passes { Passes [] (size_shown sizes) }
+        requires none { lines.items ≡ [] }
         ensures sound { IsSound result }
         ensures said { said_in_body result ≡ size_shown sizes ∷ [] }
-        ensures sizes { result.sizes ≡ sizes }
+        ensures frame { frame_of result ≡ (sizes, lines.cpus) }
     {
         Body {
             sizes,
             images: Vec::new(alloc),
             index: BTreeMap::new(alloc),
-            lines: Vec::new(alloc),
+            lines,
             samples: 0,
             records: 0,
             parts: 0,
@@ -148,9 +151,10 @@ impl Body {
         Ok(taken)
     }
 
-    /// The trace of this body and these steps.
+    /// The trace of this body, whose lines were kept, and these steps.
     pub fn into_trace(self, schedule: Vec<Step>) -> Trace
-        requires { AreSteps self schedule.items }
+        requires steps { AreSteps self schedule.items }
+        requires whole { self.lines.cpus ≡ None }
         ensures said { said_in (recording_of result) ≡ said_with_steps self schedule.items }
         ensures images { HasItsImages (recording_of result) }
     {
@@ -159,9 +163,28 @@ impl Body {
             buckets: self.sizes.buckets,
             buffer: self.sizes.buffer,
             images: self.images,
-            lines: self.lines,
+            lines: self.lines.into_whole(),
             schedule,
         }
+    }
+
+    /// The trace of this body, whose lines were cut for its processors, and these steps.
+    pub fn into_cut(self, schedule: Vec<Step>) -> CutTrace
+        requires steps { AreSteps self schedule.items }
+        requires cut { self.lines.cpus ≡ Some self.sizes.cpus }
+        ensures said { said_in (outlined result.outline) ≡ said_with_steps self schedule.items }
+        ensures images { HasItsImages (outlined result.outline) }
+    {
+        let (lines, streams) = self.lines.into_streams();
+        let outline = Outline {
+            cpus: self.sizes.cpus,
+            buckets: self.sizes.buckets,
+            buffer: self.sizes.buffer,
+            images: self.images,
+            lines,
+            schedule,
+        };
+        CutTrace { outline, streams }
     }
 
     // What a line whose words are in order says, or the first reason why it is refused.

@@ -13,7 +13,7 @@ mod samples;
 mod schedule;
 mod writing;
 
-pub use reading::read_trace;
+pub use reading::{read_cut, read_trace};
 pub use refusals::{PutError, TraceRefusal};
 pub use trace_model::{Line, Record, Step, Trace, TraceWhy};
 pub use writing::{text_of, write_trace};

@@ -3,10 +3,11 @@
 
 ghost use Rattle.std.specs.Prelude.{◌≡◌, ◌+◌, ◌^◌, ◌<◌, [], length, OnOk, IfOk, IfSome, if◌then◌else◌};
 ghost use Rattle.std.specs.Io.KnownBytes.{IsAtEnd};
-ghost use Rattle.trace_model.specs.Recording.{Reads};
+ghost use Rattle.trace_model.specs.Recording.{Reads, Recording, said_in};
 ghost use Rattle.trace_model.specs.Traces.{recording_of};
 ghost use Rattle.trace_text.specs.Judging.{size_shown};
-ghost use Rattle.trace_text.specs.State.{AreSteps, IsSound, Passes, said_in_body, said_with_steps};
+ghost use Rattle.trace_text.specs.State.{AreSteps, HasItsImages, IsSound, Passes, cut_for, frame_of, said_in_body, said_with_steps};
+ghost use Rattle.trace_lines.specs.Outlines.{outlined};
 ghost use Rattle.trace_text.specs.Phases.{ReadsBody, ReadsHeader, ReadsSchedule, StepsBody, StepsSchedule, TakesWhole, unread};
 ghost use Rattle.trace_text.specs.Refusing.{Halts, HaltsWithin, IsFirstBadOf, TellsFaults};
 
@@ -20,6 +21,7 @@ use outside_io::Source;
 use sample_key::MOST_SAMPLES;
 use std::alloc::{AllocError, Global};
 use trace_laws::MOST_TRACE_LINES;
+use trace_lines::{CutTrace, Lines};
 use trace_model::{MOST_LINE_BYTES, MOST_RECORDS, MOST_STEPS, Step, Trace, TraceWhy};
 
 /// The most lines of a body: samples, records, and the end.
@@ -36,12 +38,61 @@ pub fn read_trace<S: Source>(alloc: Global, source: &mut S) -> Result<Trace, Tra
     ensures within { HaltsWithin (MOST_TRACE_LINES + 1) result }
     ensures faults { TellsFaults (S.faults source.old) (S.faults source.new) result }
 {
+    let Parts { body, schedule } = read_parts(alloc, source, false)?;
+    Ok(body.into_trace(schedule))
+}
+
+/// Reads a trace as `read_trace` does, and cuts it as it is read: no line is kept.
+pub fn read_cut<S: Source>(alloc: Global, source: &mut S) -> Result<CutTrace, TraceRefusal>
+    ensures reads { IfOk result (λ trace.
+        IfSome (S.left source.old) (λ bytes. Reads bytes (outlined trace.outline))) }
+    ensures whole { OnOk result (IsAtEnd (S.left source.new)) }
+    ensures bad { IsFirstBadOf (S.left source.old) result }
+    ensures within { HaltsWithin (MOST_TRACE_LINES + 1) result }
+    ensures faults { TellsFaults (S.faults source.old) (S.faults source.new) result }
+{
+    let Parts { body, schedule } = read_parts(alloc, source, true)?;
+    Ok(body.into_cut(schedule))
+}
+
+// The parts of a trace that was read: its sizes and lines, and its schedule.
+#[derive(Drop)]
+pub(crate) struct Parts {
+    pub(crate) body: Body,
+    pub(crate) schedule: Vec<Step>,
+}
+
+// Reads the parts of a trace to its end, or to its first bad line. The lines are kept, or cut for its processors.
+fn read_parts<S: Source>(alloc: Global, source: &mut S, cuts: bool) -> Result<Parts, TraceRefusal>
+    ensures reads { IfOk result (λ parts. (trace : Recording) →
+        said_in trace ≡ said_with_steps parts.body parts.schedule.items → HasItsImages trace →
+        IfSome (S.left source.old) (λ bytes. Reads bytes trace)) }
+    ensures steps { IfOk result (λ parts. AreSteps parts.body parts.schedule.items) }
+    ensures kept { IfOk result (λ parts.
+        parts.body.lines.cpus ≡ cut_for cuts parts.body.sizes.cpus) }
+    ensures whole { OnOk result (IsAtEnd (S.left source.new)) }
+    ensures bad { IsFirstBadOf (S.left source.old) result }
+    ensures within { HaltsWithin (MOST_TRACE_LINES + 1) result }
+    ensures faults { TellsFaults (S.faults source.old) (S.faults source.new) result }
+{
     let mut input = Input::new(alloc)?;
     let sizes = read_header(&mut input, source)?;
-    let mut body = Body::new(alloc, sizes);
+    let lines = no_lines(alloc, cuts, sizes.cpus)?;
+    let mut body = Body::new(alloc, sizes, lines);
     read_body(alloc, &mut input, source, &mut body)?;
     let schedule = read_schedule(alloc, &mut input, source, &body)?;
-    Ok(body.into_trace(schedule))
+    Ok(Parts { body, schedule })
+}
+
+// No line yet, each to be kept, or to be cut for so many processors.
+fn no_lines(alloc: Global, cuts: bool, cpus: u32) -> Result<Lines, AllocError>
+    ensures { IfOk result (λ lines. lines ≡ record { items = []; cpus = cut_for cuts cpus }) }
+{
+    if cuts {
+        Lines::cut(alloc, cpus)
+    } else {
+        Ok(Lines::whole(alloc))
+    }
 }
 
 fn read_header<S: Source>(input: &mut Input, source: &mut S) -> Result<Sizes, TraceRefusal>
@@ -76,6 +127,7 @@ fn read_body<S: Source>(
     ensures went { OnOk result (ReadsBody (unread input.old (S.left source.old))
         (unread input.new (S.left source.new)) body.old body.new input.new.number) }
     ensures sound { OnOk result (IsSound body.new) }
+    ensures frame { OnOk result (frame_of body.new ≡ frame_of body.old) }
     ensures stops { Halts (unread input.old (S.left source.old)) (said_in_body body.old) 1 result }
     ensures within { HaltsWithin (1 + MOST_BODY_LINES) result }
     ensures faults { TellsFaults (S.faults source.old) (S.faults source.new) result }

@@ -1,6 +1,6 @@
-use Rattle.std.proofs.Common.{◌∷◌, ◌++◌, sym, refl, subst, ◌∙◌, ◌+◌, [], arith}
+use Rattle.std.proofs.Common.{◌∷◌, ◌++◌, sym, ap, refl, subst, ◌∙◌, ◌+◌, [], arith}
 use Rattle.std.specs.Io.KnownBytes.{prepend_known}
-use Rattle.trace_text.specs.State.{said_in_body}
+use Rattle.trace_text.specs.State.{frame_of, said_in_body}
 use Rattle.std.proofs.lemmas.Result.{err_from_is_err_and}
 use Rattle.trace_text.proofs.Walking.{went_on, went_length}
 use Rattle.trace_text.proofs.Phasing.{halts_on, body_bound, within_more}
@@ -29,6 +29,7 @@ returns-in-End-clause-went g c = let t = rw c.in-End.is at c.in_ok-taken.ensures
 pub loop-preserved : goal.loop-preserved
 loop-preserved g c = let t = rw c.in-Line.is at c.in_ok-taken.ensures.taken in record {
   sound = t.0;
+  frame = t.1 ∙ c.loop.invariant.frame;
   went = went_on (prepend_known c.args.input.now.reader (g.S.Source.left c.args.source.now)) (prepend_known c.loop.input.reader (g.S.Source.left c.loop.source)) (prepend_known c.step_body.new.input.reader (g.S.Source.left c.step_body.new.source)) (said_in_body c.args.body.now) (said_in_body c.loop.body) (said_in_body c.step_body.new.body) c.loop.counter 1 (c.loop.counter + 1) c.loop.invariant.went t.2 refl;
   number = omega (arith, c.in_ok-taken.ensures.number, c.loop.invariant.number);
   first = c.loop.invariant.first;
@@ -38,3 +39,6 @@ loop-preserved g c = let t = rw c.in-Line.is at c.in_ok-taken.ensures.taken in r
 pub returns-in_err-taken-clause-within : goal.returns-in_err-taken-clause-within
 returns-in_err-taken-clause-within g c = let p = err_from_is_err_and c.from_residual.result c.from_residual.ensures.1 in
     rw (p.1, p.2) (within_more (c.loop.input.number + 1) (1 + MOST_BODY_LINES) c.in_err-taken.field-0.0 (omega (arith, c.loop.invariant.number, c.loop-test.true)) c.in_err-taken.ensures.within)
+
+pub returns-in-End-clause-frame : goal.returns-in-End-clause-frame
+returns-in-End-clause-frame g c = ap frame_of (rw c.in-End.is at c.in_ok-taken.ensures.taken).0 ∙ c.loop.invariant.frame
