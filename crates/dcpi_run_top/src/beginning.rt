@@ -1,6 +1,6 @@
-//! What comes before a run: the database is opened, and then the trace is read.
+//! What comes before a run: the database is opened, and then the trace is read and cut.
 ghost use Rattle.std.specs.Prelude.{◌≡◌, None, IfOk};
-ghost use Rattle.trace_model.specs.Traces.{recording_of};
+ghost use Rattle.trace_lines.specs.Outlines.{outlined};
 ghost use Rattle.epoch_store.specs.Databases.{failed_of, head_of};
 ghost use Rattle.dcpi_top.specs.Moments.{ReadsOnly};
 ghost use Rattle.dcpi_top.specs.Replays.{IsReadInto};
@@ -12,24 +12,24 @@ use epoch_store::{Database, open_database};
 use outside_io::Source;
 use std::alloc::Global;
 use store_io::Store;
-use trace_model::Trace;
-use trace_text::read_trace;
+use trace_lines::CutTrace;
+use trace_text::read_cut;
 
-/// An opened database, and the trace that is to be run into it.
+/// An opened database, and the trace that is to be run into it, which was cut while it was read.
 #[derive(Drop)]
 pub(crate) struct Begun {
     pub(crate) db: Database,
-    pub(crate) trace: Trace,
+    pub(crate) trace: CutTrace,
 }
 
-/// Opens the database and reads the trace.
+/// Opens the database, and reads the trace and cuts it.
 pub(crate) fn begin<S: Source, D: Store>(
     alloc: Global,
     source: &mut S,
     store: &mut D,
 ) -> Result<Begun, Refusal>
     ensures into { IfOk result (λ begun. IsReadInto (seen S.left S.faults source.old source.new)
-        (recording_of begun.trace) (seen D.files D.faults store.old store.new)
+        (outlined begun.trace.outline) (seen D.files D.faults store.old store.new)
         (head_of begun.db)) }
     ensures counted { IfOk result (λ _. D.faults store.new ≡ D.faults store.old) }
     ensures works { IfOk result (λ begun. failed_of begun.db ≡ None) }
@@ -39,6 +39,6 @@ pub(crate) fn begin<S: Source, D: Store>(
     ensures origin { D.origin store.new ≡ D.origin store.old }
 {
     let db = open_database(alloc, store)?;
-    let trace = read_trace(alloc, source)?;
+    let trace = read_cut(alloc, source)?;
     Ok(Begun { db, trace })
 }

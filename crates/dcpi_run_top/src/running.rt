@@ -10,7 +10,7 @@ use crate::beginning::{Begun, begin};
 use database_state::DbFault;
 use dcpi_top::Refusal;
 use outside_io::{Gate, Sink, Source, put_all};
-use run_drive::{Outcome, run};
+use run_drive::{Outcome, run_cut};
 use sample_key::Pace;
 use std::alloc::Global;
 use std::sync::Wait;
@@ -35,7 +35,7 @@ pub(crate) fn print_run<R: Threads + Wait + Sync, S: Source, D: Store, W: Sink, 
     ensures origin { D.origin store.new ≡ D.origin store.old }
 {
     let Begun { db, trace } = begin(alloc, source, store)?;
-    let ran = run(rt, alloc, &trace, db, store, pace, gate);
+    let ran = run_cut(rt, alloc, trace, db, store, pace, gate);
     print_summary(alloc, ran, out)
 }
 

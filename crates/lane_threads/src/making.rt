@@ -2,42 +2,39 @@
 ghost use Rattle.std.specs.Prelude.{◌≡◌, ◌<◌, length, IfOk};
 ghost use Rattle.trace_model.specs.Streams.{stream_of, streams_in, records_in};
 ghost use Rattle.trace_cut.specs.Cutting.{lanes_in};
-ghost use Rattle.trace_model.specs.Traces.{recording_of};
+ghost use Rattle.trace_outline.specs.Views.{viewed};
 ghost use Rattle.lane_threads.specs.Starting.{AllStart, StartsAt};
 
 use crate::works::Work;
 use cpu_lane::{Lane, Plan};
-use run_laws::traces_are_fit;
 use sample_key::{Marked, Pace};
 use shared_side::{SharedDaemon, shared};
 use std::alloc::{AllocError, Global};
-use trace_laws::{limits_are_kept, sizes_are_kept};
-use trace_model::Trace;
+use trace_outline::{TraceView, views_are_fit, views_keep_limits};
 
 /// The lane and both sides of a processor of a trace with these samples and so many records.
 pub fn new_pair(
     alloc: Global,
-    trace: &Trace,
+    trace: &TraceView<'_>,
     pace: Pace,
     records: usize,
     cpu: u32,
     samples: Vec<Marked>,
 ) -> Result<(Work, SharedDaemon), AllocError>
-    requires cpu { cpu < trace.now.cpus }
-    requires records { records ≡ length (records_in (recording_of trace.now)) }
-    requires samples { samples.items ≡ stream_of cpu (recording_of trace.now) }
+    requires cpu { cpu < (viewed trace.now).cpus }
+    requires records { records ≡ length (records_in (viewed trace.now)) }
+    requires samples { samples.items ≡ stream_of cpu (viewed trace.now) }
     ensures { IfOk result (λ pair.
-        StartsAt pace (recording_of trace.now) cpu pair.0 pair.1) }
+        StartsAt pace (viewed trace.now) cpu pair.0 pair.1) }
 {
-    traces_are_fit(trace);
-    sizes_are_kept(trace);
-    limits_are_kept(trace);
+    views_are_fit(trace);
+    views_keep_limits(trace);
     let plan = Plan {
         pace,
         last: 2 * records as u64 + 1,
-        buffer: trace.buffer as usize,
+        buffer: trace.buffer() as usize,
     };
-    let (side, daemon) = shared(alloc, cpu, &samples, trace.buckets as usize, plan.buffer)?;
+    let (side, daemon) = shared(alloc, cpu, &samples, trace.buckets() as usize, plan.buffer)?;
     let lane = Lane::new(alloc, cpu, samples, plan)?;
     Ok((Work { cpu, lane, side }, daemon))
 }
@@ -54,23 +51,23 @@ pub struct Pairs {
 /// Those of a trace with these streams of samples and so many records.
 pub fn new_pairs(
     alloc: Global,
-    trace: &Trace,
+    trace: &TraceView<'_>,
     pace: Pace,
     records: usize,
     streams: Vec<Vec<Marked>>,
 ) -> Result<Pairs, AllocError>
-    requires records { records ≡ length (records_in (recording_of trace.now)) }
-    requires streams { lanes_in streams.items ≡ streams_in (recording_of trace.now) }
-    ensures count { IfOk result (λ pairs. length pairs.works.items ≡ trace.now.cpus) }
+    requires records { records ≡ length (records_in (viewed trace.now)) }
+    requires streams { lanes_in streams.items ≡ streams_in (viewed trace.now) }
+    ensures count { IfOk result (λ pairs. length pairs.works.items ≡ (viewed trace.now).cpus) }
     ensures start { IfOk result (λ pairs.
-        AllStart pace (recording_of trace.now) 0 pairs.works.items pairs.sides.items) }
+        AllStart pace (viewed trace.now) 0 pairs.works.items pairs.sides.items) }
 {
     let mut streams = streams.into_iter();
     let mut pairs = Pairs {
         works: Vec::new(alloc),
         sides: Vec::new(alloc),
     };
-    for cpu in 0..trace.cpus {
+    for cpu in 0..trace.cpus() {
         let Some(samples) = streams.next() else {
             unreachable!()
         };

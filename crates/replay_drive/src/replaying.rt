@@ -20,8 +20,9 @@ use sample_key::{Marked, Pace};
 use std::alloc::{AllocError, Global};
 use store_io::Store;
 use trace_cut::{Streams, cut};
+use trace_lines::Outline;
 use trace_model::{Record, Step, Trace};
-use trace_outline::{Outline, TraceView, views_are_fit};
+use trace_outline::{TraceView, views_are_fit};
 
 /// More rounds than any trace needs: one for each sample, four for each record, and eight.
 pub const MOST_ROUNDS: u64 = 16 * 2_000_000 + 4 * 65_536 + 8;

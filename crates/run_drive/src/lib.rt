@@ -7,4 +7,4 @@ mod going;
 mod runs;
 
 pub use dcpid_core::Outcome;
-pub use runs::{DAEMON_GATE, run};
+pub use runs::{DAEMON_GATE, run, run_cut};

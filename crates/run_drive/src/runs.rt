@@ -4,6 +4,8 @@ ghost use Rattle.sample_key.specs.declared.losses.Pace.TheVariants.{Exact};
 ghost use Rattle.trace_cut.specs.Cutting.{lanes_in};
 ghost use Rattle.trace_model.specs.Streams.{records_in, streams_in};
 ghost use Rattle.trace_model.specs.Traces.{recording_of};
+ghost use Rattle.trace_lines.specs.Outlines.{outlined};
+ghost use Rattle.trace_outline.specs.Views.{viewed};
 ghost use Rattle.database_state.specs.Limits.{IsProfile};
 ghost use Rattle.database_state.specs.Standing.{database_of};
 ghost use Rattle.epoch_store.specs.Databases.{failed_of, head_of};
@@ -33,8 +35,10 @@ use std::sync::Wait;
 use std::thread;
 use std::thread::Threads;
 use store_io::Store;
-use trace_cut::{Streams, cut_in_threads};
+use trace_cut::{Streams, cut};
+use trace_lines::CutTrace;
 use trace_model::{Record, Trace};
+use trace_outline::{TraceView, views_are_fit};
 
 /// Where the daemon says at the gate that a round begins.
 pub const DAEMON_GATE: u32 = 16;
@@ -62,15 +66,40 @@ pub fn run<R: Threads + Wait + Sync, D: Store, G: Gate + Sync>(
 {
     traces_are_fit(trace);
     records_are_valid();
-    let Streams { lanes, records } = cut_in_threads(rt, alloc, trace)?;
-    run_streams(rt, alloc, trace, &records, lanes, db, store, pace, gate)
+    let Streams { lanes, records } = cut(alloc, trace)?;
+    let view = TraceView::Whole(trace);
+    run_streams(rt, alloc, &view, &records, lanes, db, store, pace, gate)
 }
 
-// The same, by the records and the samples of the trace.
+/// The same of a trace that was cut while it was read.
+pub fn run_cut<R: Threads + Wait + Sync, D: Store, G: Gate + Sync>(
+    rt: &R,
+    alloc: Global,
+    trace: CutTrace,
+    db: Database,
+    store: &mut D,
+    pace: Pace,
+    gate: &G,
+) -> Result<Outcome, DbFault>
+    requires works { failed_of db ≡ None }
+    ensures run { IfOk result (IsRunOf pace (outlined trace.outline) (head_of db)) }
+    ensures leaves { LeavesRun D.files D.faults D.moment D.left_since pace
+        (outlined trace.outline) (head_of db) store.old store.new result }
+    ensures plain { pace ≡ Exact → IfOk result (GrowsPlainly D.files (outlined trace.outline)
+        (head_of db) store.old store.new) }
+    ensures origin { D.origin store.new ≡ D.origin store.old }
+{
+    let CutTrace { outline, streams } = trace;
+    let Streams { lanes, records } = streams;
+    let view = TraceView::Outline(&outline);
+    run_streams(rt, alloc, &view, &records, lanes, db, store, pace, gate)
+}
+
+// The same, by the records and the samples of the trace that is seen.
 fn run_streams<'a, R: Threads + Wait + Sync, D: Store, G: Gate + Sync>(
     rt: &R,
     alloc: Global,
-    trace: &'a Trace,
+    trace: &TraceView<'a>,
     records: &'a [Record],
     samples: Vec<Vec<Marked>>,
     db: Database,
@@ -78,23 +107,23 @@ fn run_streams<'a, R: Threads + Wait + Sync, D: Store, G: Gate + Sync>(
     pace: Pace,
     gate: &G,
 ) -> Result<Outcome, DbFault>
-    requires records { records.now ≡ records_in (recording_of trace.now) }
-    requires samples { lanes_in samples.items ≡ streams_in (recording_of trace.now) }
+    requires records { records.now ≡ records_in (viewed trace.now) }
+    requires samples { lanes_in samples.items ≡ streams_in (viewed trace.now) }
     requires works { failed_of db ≡ None }
-    ensures run { IfOk result (IsRunOf pace (recording_of trace.now) (head_of db)) }
+    ensures run { IfOk result (IsRunOf pace (viewed trace.now) (head_of db)) }
     ensures leaves { LeavesRun D.files D.faults D.moment D.left_since pace
-        (recording_of trace.now) (head_of db) store.old store.new result }
-    ensures plain { pace ≡ Exact → IfOk result (GrowsPlainly D.files (recording_of trace.now)
+        (viewed trace.now) (head_of db) store.old store.new result }
+    ensures plain { pace ≡ Exact → IfOk result (GrowsPlainly D.files (viewed trace.now)
         (head_of db) store.old store.new) }
     ensures origin { D.origin store.new ≡ D.origin store.old }
 {
-    traces_are_fit(trace);
+    views_are_fit(trace);
     records_are_valid();
     laws();
     let Pairs { works, sides } = new_pairs(alloc, trace, pace, records.len(), samples)?;
     let rooms = Rooms::of(alloc, sides.len())?;
     let waiting = all_waiting(alloc, works)?;
-    let daemon = Daemon::new(alloc, trace, records, pace, db)?;
+    let daemon = Daemon::of_view(alloc, trace, records, pace, db)?;
     let (result, back) = thread::scope(
         thread::scope_env(),
         rt,

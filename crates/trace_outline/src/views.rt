@@ -3,8 +3,8 @@
 ghost use Rattle.std.specs.Prelude.{◌≡◌};
 ghost use Rattle.trace_outline.specs.Views.{viewed};
 
-use crate::outlines::Outline;
 use text_num::Name;
+use trace_lines::Outline;
 use trace_model::{Step, Trace};
 
 /// A trace that is borrowed for a run, whole or in outline.

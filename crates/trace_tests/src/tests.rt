@@ -3,17 +3,21 @@
 use crate::examples::{BOUNDARY, EACH_FORM, EMPTY, HEADER, REMAPPED};
 use outside_io::{ListedFaults, MemSink, MemSource};
 use sample_key::{Event, Key, Marked};
-use std::alloc::Global;
+use std::alloc::{AllocError, Global};
 use std::process::Abort;
 use std::test::Fail;
-use trace_cut::{cut, cut_in_threads, streams_are_in_order};
+use trace_cut::{cut, streams_are_in_order};
+use trace_lines::{CutTrace, Outline};
 use trace_text::{
-    Line, PutError, Record, Step, Trace, TraceRefusal, TraceWhy, read_trace, write_trace,
+    Line, PutError, Record, Step, Trace, TraceRefusal, TraceWhy, read_cut, read_trace, write_trace,
 };
 
+fn source(alloc: Global, bytes: &[u8]) -> Result<MemSource, AllocError> {
+    Ok(MemSource::new(bytes.to_vec(alloc)?, ListedFaults::none(alloc)))
+}
+
 fn read(alloc: Global, bytes: &[u8]) -> Result<Trace, TraceRefusal> {
-    let mut source = MemSource::new(bytes.to_vec(alloc)?, ListedFaults::none(alloc));
-    read_trace(alloc, &mut source)
+    read_trace(alloc, &mut source(alloc, bytes)?)
 }
 
 fn written(alloc: Global, trace: &Trace) -> Result<Vec<u8>, Fail> {
@@ -375,10 +379,8 @@ fn a_trace_is_cut_by_processor(rt: HostRuntime) -> Result<(), Fail> {
         pc: 0xfffffffffffffffc,
         event: Event::Dmiss,
     };
-    for streams in [
-        cut(rt.alloc(), &trace)?,
-        cut_in_threads(&rt, rt.alloc(), &trace)?,
-    ] {
+    let CutTrace { outline, streams } = read_cut(rt.alloc(), &mut source(rt.alloc(), EACH_FORM)?)?;
+    for streams in [cut(rt.alloc(), &trace)?, streams] {
         assert!(rt; streams.lanes.len() == 2);
         assert!(rt; streams.lanes[0].as_slice() == [Marked { key: last, mark: 9 }].as_slice());
         assert!(rt;
@@ -391,6 +393,11 @@ fn a_trace_is_cut_by_processor(rt: HostRuntime) -> Result<(), Fail> {
         );
         assert!(rt; streams.records.len() == 9);
         assert!(rt; streams.records[8] == Record::Epoch);
+    }
+    for outline in [Outline::of(trace), outline] {
+        assert!(rt; (outline.cpus, outline.buckets, outline.buffer) == (2, 64, 8));
+        assert!(rt; outline.images.len() == 3);
+        assert!(rt; outline.schedule.len() == 3);
     }
     Ok(())
 }
