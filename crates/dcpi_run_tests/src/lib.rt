@@ -11,3 +11,5 @@ mod held;
 mod paces;
 #[cfg(test)]
 mod traces;
+#[cfg(test)]
+mod wholes;
