@@ -1,20 +1,25 @@
 #!/bin/sh
 # Runs a recording into a new folder by threads, with `dcpi run` at both paces, and replays it, five times each in turn. Prints the best
 # time of each, how many times as fast as the replay each pace was, and in how many runs at the free pace how many samples were lost.
-# usage: bench/run.sh [RECORDING [COPIES]], by default the made trace of 2,000,000 samples on four processors (`dcpi make 7 2000000 --trace`)
-# With COPIES the samples of the recording are repeated so many times, each processor's in their order, up to 2,000,000 of them.
+# usage: bench/run.sh [RECORDING [COPIES] | made], by default the recording of a shell script on four processors in examples/, its samples
+# repeated up to 2,000,000. With COPIES the samples of a recording are repeated so many times, each processor's in their order, up to
+# 2,000,000 of them. `made` is the made trace of 2,000,000 samples on four processors (`dcpi make 7 2000000 --trace`), of which nearly all go
+# past the tables.
 set -eu
 scratch=$(mktemp -d)
 trap 'rm -rf "$scratch"' EXIT
 . "$(dirname "$0")/beside.sh"
 build_dcpi
 
-if [ $# -gt 0 ]; then
-    recording=$(cd "$(dirname "$1")" && pwd)/$(basename "$1")
-    if [ "${2:-1}" -gt 1 ]; then repeat_samples "$2"; fi
-else
+if [ "${1:-}" = made ]; then
     recording=$scratch/made.trace
     "$dcpi" make 7 2000000 --trace >"$recording"
+else
+    given=${1:-$root/examples/shell-script.trace}
+    recording=$(cd "$(dirname "$given")" && pwd)/$(basename "$given")
+    copies=${2:-1}
+    if [ $# -eq 0 ]; then copies=$((2000000 / $(grep -c '^s ' "$recording") + 1)); fi
+    if [ "$copies" -gt 1 ]; then repeat_samples "$copies"; fi
 fi
 samples=$(awk '$1 == "s" { n++ } END { print n + 0 }' "$recording")
 
